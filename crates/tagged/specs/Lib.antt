@@ -1,0 +1,5 @@
+pub mod Words
+pub mod Operations
+pub mod Answers
+pub mod Refusals
+pub mod Rule
