@@ -2,10 +2,8 @@
 ghost use mathlib.Core.Path.{_≡_};
 ghost use Rattle.tagged.specs.Answers.{outcome-number, notice-number};
 use crate::words::WordState;
-use crate::words::WordStateDebug;
-use crate::words::WordStatePartialEq;
 
-#[derive(Clone, Copy, Debug, PartialEq, Eq)]
+#[derive(Clone, Copy)]
 pub enum Outcome {
     Done,
     Discarded,
@@ -27,7 +25,7 @@ impl Outcome {
 }
 
 // What the bus tells sleepers of a word.
-#[derive(Clone, Copy, Debug, PartialEq, Eq)]
+#[derive(Clone, Copy)]
 pub enum Notice {
     Nothing,
     // An empty word was filled.
@@ -49,7 +47,7 @@ impl Notice {
 }
 
 // Unless the outcome is done, `value`, `notice` and `woken` are 0; where it waits, `found` is empty too.
-#[derive(Clone, Copy, Debug, PartialEq, Eq)]
+#[derive(Clone, Copy)]
 pub struct Answer {
     // The request's number.
     pub number: u32,

@@ -8,7 +8,7 @@ ghost use Rattle.tagged.specs.Operations.{class-of, altering, claims, reads, c
 use crate::words::WordState;
 
 // What happens where a word has not the state that the operation needs.
-#[derive(Clone, Copy, Debug, PartialEq, Eq)]
+#[derive(Clone, Copy)]
 pub enum Class {
     // U: needs no state.
     Unconditional,
@@ -68,7 +68,7 @@ impl Class {
     }
 }
 
-#[derive(Clone, Copy, Debug, PartialEq, Eq)]
+#[derive(Clone, Copy)]
 pub enum Operation {
     Read { class: Class, altering: bool },
     Write { class: Class, altering: bool },
@@ -139,8 +139,10 @@ impl Operation {
         ensures { λ r. ⌜ r ≡ code-of self ⌝ }
     {
         match self {
-            Operation::Read { class, altering } => 4 * class.number() + if altering { 2 } else { 0 },
-            Operation::Write { class, altering } => 4 * class.number() + if altering { 3 } else { 1 },
+            Operation::Read { class, altering } => 4 * class.number()
+                + if altering { 2 } else { 0 },
+            Operation::Write { class, altering } => 4 * class.number()
+                + if altering { 3 } else { 1 },
             Operation::Clear => 16,
         }
     }
@@ -166,8 +168,18 @@ impl Operation {
         ensures { λ r. ⌜ r ≡ name-of self ⌝ }
     {
         match self {
-            Operation::Read { class, altering } => [class.letter(), alter_letter(altering), b'R', b'd'],
-            Operation::Write { class, altering } => [class.letter(), alter_letter(altering), b'W', b'r'],
+            Operation::Read { class, altering } => [
+                class.letter(),
+                alter_letter(altering),
+                b'R',
+                b'd',
+            ],
+            Operation::Write { class, altering } => [
+                class.letter(),
+                alter_letter(altering),
+                b'W',
+                b'r',
+            ],
             Operation::Clear => *b"UACl",
         }
     }

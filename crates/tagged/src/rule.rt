@@ -10,17 +10,10 @@ use crate::operations::Class;
 use crate::operations::Operation;
 use crate::words::Word;
 use crate::words::WordState;
-use crate::answers::NoticeDebug;
-use crate::answers::NoticePartialEq;
-use crate::answers::OutcomeDebug;
-use crate::answers::OutcomePartialEq;
-use crate::words::WordDebug;
-use crate::words::WordPartialEq;
-use crate::words::WordStateDebug;
 use crate::words::WordStatePartialEq;
 
 // What an operation on a word answers, and the word afterwards.
-#[derive(Clone, Copy, Debug, PartialEq, Eq)]
+#[derive(Clone, Copy)]
 pub struct Served {
     pub outcome: Outcome,
     pub value: u32,
@@ -60,16 +53,36 @@ impl Operation {
     {
         let (answered, after) = match self {
             Operation::Read { altering, .. } => {
-                let state = if altering { WordState::Empty } else { word.state };
-                (word.value, Word { value: word.value, state })
+                let state = if altering {
+                    WordState::Empty
+                } else {
+                    word.state
+                };
+                (
+                    word.value,
+                    Word {
+                        value: word.value,
+                        state,
+                    },
+                )
             }
             Operation::Write { altering, .. } => {
-                let state = if altering { WordState::Full } else { word.state };
+                let state = if altering {
+                    WordState::Full
+                } else {
+                    word.state
+                };
                 (0, Word { value, state })
             }
             Operation::Clear => {
                 let state = WordState::Empty;
-                (0, Word { value: word.value, state })
+                (
+                    0,
+                    Word {
+                        value: word.value,
+                        state,
+                    },
+                )
             }
         };
         Served {

@@ -4,7 +4,7 @@ ghost use Prim.Native.Nat.{ℕ, _/_, _%_};
 ghost use Rattle.tagged.specs.Words.{state-number, word-at, with-word, blank};
 
 // Whether a word holds something to take. A read that needs a full word waits on an empty one.
-#[derive(Clone, Copy, Debug, PartialEq, Eq)]
+#[derive(Clone, Copy, PartialEq, Eq)]
 pub enum WordState {
     Empty,
     Full,
@@ -21,7 +21,7 @@ impl WordState {
     }
 }
 
-#[derive(Clone, Copy, Debug, PartialEq, Eq)]
+#[derive(Clone, Copy)]
 pub struct Word {
     pub value: u32,
     pub state: WordState,
@@ -30,7 +30,7 @@ pub struct Word {
 // Word w of a memory stands in line w / 4 at place w % 4.
 pub const WORDS_PER_LINE: u32 = 4;
 
-#[derive(Clone, Copy, Debug, PartialEq, Eq)]
+#[derive(Clone, Copy)]
 pub struct Line {
     pub values: [u32; 4],
     pub states: [WordState; 4],
