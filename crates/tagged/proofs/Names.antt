@@ -30,14 +30,14 @@ operation-by (c ∷ []) = Clear
 operation-by (c ∷ a ∷ []) = Clear
 operation-by (c ∷ a ∷ k ∷ rest) = cond (eqb k 82) (Read (class-by c) (eqb a 65)) (cond (eqb k 87) (Write (class-by c) (eqb a 65)) Clear)
 
-class-back : (c : Class) → class-by (class-letter c) ≡ c
+class-back : (k : Class) → class-by (class-letter k) ≡ k
 unfolding class-by
 class-back Unconditional = refl
 class-back Waiting = refl
 class-back NonFaulting = refl
 class-back Trapping = refl
 
-alter-back : (a : Bool) → eqb (alter-letter a) 65 ≡ a
+alter-back : (x : Bool) → eqb (alter-letter x) 65 ≡ x
 alter-back true = refl
 alter-back false = refl
 

@@ -72,6 +72,6 @@ alter-letter false = 78
 
 -- class, A or N, then Rd or Wr; UACl is the one exception
 abbrev pub name-of : Operation → List ℕ
-name-of (Read c a) = class-letter c ∷ alter-letter a ∷ codes "Rd"
-name-of (Write c a) = class-letter c ∷ alter-letter a ∷ codes "Wr"
+name-of (Read k x) = class-letter k ∷ alter-letter x ∷ codes "Rd"
+name-of (Write k x) = class-letter k ∷ alter-letter x ∷ codes "Wr"
 name-of Clear = codes "UACl"

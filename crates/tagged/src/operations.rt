@@ -56,7 +56,7 @@ impl Class {
     }
 
     fn from_letter(letter: u8) -> Option<Class>
-        ensures { λ r. ⌜ BySome r ((c : Class) → letter ≡ class-letter c → ⊥) (λ c. letter ≡ class-letter c) ⌝ }
+        ensures { λ r. ⌜ BySome r ((k : Class) → letter ≡ class-letter k → ⊥) (λ k. letter ≡ class-letter k) ⌝ }
     {
         match letter {
             b'U' => Some(Class::Unconditional),
@@ -212,7 +212,7 @@ fn alter_letter(altering: bool) -> u8
 }
 
 fn alters(letter: u8) -> Option<bool>
-    ensures { λ r. ⌜ BySome r ((a : Bool) → letter ≡ alter-letter a → ⊥) (λ a. letter ≡ alter-letter a) ⌝ }
+    ensures { λ r. ⌜ BySome r ((x : Bool) → letter ≡ alter-letter x → ⊥) (λ x. letter ≡ alter-letter x) ⌝ }
 {
     match letter {
         b'A' => Some(true),
