@@ -1,0 +1,4 @@
+pub mod Numbers
+pub mod Places
+pub mod States
+pub mod Writing
