@@ -1,8 +1,9 @@
 -- The seventeen operations: what each is, its code and its name.
 use mathlib.Core.Bool.{Bool, true, false, cond}
-use mathlib.Core.List.{List, _∷_}
+use mathlib.Core.List.{List, [], _∷_}
 use Prim.Native.Nat.{ℕ, _+_, _*_}
 use lib.Chars.{codes}
+use lib.ListN.{getD}
 use Rattle.std.specs.declared.option.Option.{Option}
 use Rattle.std.specs.declared.option.Option.the-variants.{Some, None}
 use Rattle.tagged.specs.declared.operations.Class.{Class}
@@ -75,3 +76,15 @@ abbrev pub name-of : Operation → List ℕ
 name-of (Read k x) = class-letter k ∷ alter-letter x ∷ codes "Rd"
 name-of (Write k x) = class-letter k ∷ alter-letter x ∷ codes "Wr"
 name-of Clear = codes "UACl"
+
+-- the operations in the order of their codes
+abbrev pub operations : List Operation
+operations =
+    Read Unconditional false ∷ Write Unconditional false ∷ Read Unconditional true ∷ Write Unconditional true ∷
+    Read Waiting false ∷ Write Waiting false ∷ Read Waiting true ∷ Write Waiting true ∷
+    Read NonFaulting false ∷ Write NonFaulting false ∷ Read NonFaulting true ∷ Write NonFaulting true ∷
+    Read Trapping false ∷ Write Trapping false ∷ Read Trapping true ∷ Write Trapping true ∷ Clear ∷ []
+
+-- the operation with a code; a number above 16 has none, and the clear stands in
+abbrev pub operation-coded : ℕ → Operation
+operation-coded k = getD operations k Clear

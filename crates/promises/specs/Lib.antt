@@ -1,0 +1,10 @@
+pub mod Board
+pub mod Calls
+pub mod Copies
+pub mod Lists
+pub mod Refusing
+pub mod Steps
+pub mod Runs
+pub mod Example
+pub mod OneMemory
+pub mod Promises

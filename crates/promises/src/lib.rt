@@ -1,0 +1,17 @@
+// What holds after every list of calls: mathematics over what each call does, for every lawful protocol and memory.
+ghost use Rattle.promises.specs.Example.{Example-is-a-run};
+ghost use Rattle.promises.specs.Runs.{Steps-leave-nothing-open};
+
+// What each call does is fixed: with the same arguments on the same board it answers and leaves the same.
+pub fn steps_leave_nothing_open() -> u8
+    ensures { λ _. ⌜ Steps-leave-nothing-open ⌝ }
+{
+    0
+}
+
+// There are runs: thirteen calls of two cores, written out with their answers, are one.
+pub fn example_is_a_run() -> u8
+    ensures { λ _. ⌜ Example-is-a-run ⌝ }
+{
+    0
+}
