@@ -26,7 +26,7 @@ pub impl Memory for Chip as ChipMemory {
     ghost lines = { λ m. m .lines };
 
     fn line_count(&self) -> u32 {
-        LINES
+        self.lines.len() as u32
     }
 
     fn read(&self, n: u32) -> Line {

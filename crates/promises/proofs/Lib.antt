@@ -1,2 +1,4 @@
+pub mod Contents
 pub mod Example
+pub mod Frames
 pub mod Open

@@ -14,13 +14,13 @@ pub record Content : Type 0 where
   pub third : Word
   pub fourth : Word
 
-abbrev at-place : ℕ → Content → Word
+abbrev pub at-place : ℕ → Content → Word
 at-place zero f = f .first
 at-place (suc zero) f = f .second
 at-place (suc (suc zero)) f = f .third
 at-place (suc (suc (suc k))) f = f .fourth
 
-abbrev put-place : ℕ → Word → Content → Content
+abbrev pub put-place : ℕ → Word → Content → Content
 put-place zero x f = record { first = x; second = f .second; third = f .third; fourth = f .fourth }
 put-place (suc zero) x f = record { first = f .first; second = x; third = f .third; fourth = f .fourth }
 put-place (suc (suc zero)) x f = record { first = f .first; second = f .second; third = x; fourth = f .fourth }
