@@ -59,9 +59,9 @@ module _ (p : ℕ → Bool) where
   pass k h rest low more e =
       ⊎-elim (λ t. let is = cond-true (p k) k low t in (ap p is ∙ t, rw is h))
       (λ f.
-          let is = cond-false (p k) k low f in
-          let other = more (⊎-elim (λ t. absurd (both-ways (p k) f t)) (λ t. t) (or-cases (p k) rest e)) in
-          (ap p is ∙ other .0, rw is (other .1)))
+      let is = cond-false (p k) k low f in
+      let other = more (⊎-elim (λ t. absurd (both-ways (p k) f t)) (λ t. t) (or-cases (p k) rest e)) in
+      (ap p is ∙ other .0, rw is (other .1)))
       (cases-bool (p k))
 
   pub lowest-passes : any-core p ≡ true → (p (lowest p) ≡ true) × (lowest p < 8)
@@ -83,3 +83,12 @@ module _ (p : ℕ → Bool) where
   -- where no core passes, each fails
   pub none-passes : any-core p ≡ false → (c : ℕ) → c < 8 → p c ≡ false
   none-passes none c h = ⊎-elim (λ t. absurd (both-ways _ none (any-from c h t))) (λ f. f) (cases-bool (p c))
+
+  -- and the lowest core is 8
+  fail : (k rest : ℕ) → p k ≡ false → rest ≡ 8 → cond (p k) k rest ≡ 8
+  fail k rest e is = cond-false (p k) k rest e ∙ is
+
+  pub lowest-none : any-core p ≡ false → lowest p ≡ 8
+  lowest-none none =
+      let at = none-passes none in
+      fail 0 _ (at 0 (omega arith)) (fail 1 _ (at 1 (omega arith)) (fail 2 _ (at 2 (omega arith)) (fail 3 _ (at 3 (omega arith)) (fail 4 _ (at 4 (omega arith)) (fail 5 _ (at 5 (omega arith)) (fail 6 _ (at 6 (omega arith)) (fail 7 8 (at 7 (omega arith)) refl)))))))

@@ -1,4 +1,6 @@
 pub mod Contents
+pub mod Copies
 pub mod Example
 pub mod Frames
 pub mod Open
+pub mod Standing

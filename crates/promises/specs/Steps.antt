@@ -84,17 +84,17 @@ answer-served k x woken = record { number = k; outcome = x .outcome; value = x .
 
 -- issue: core, operation, word, value
 module _ (r : Rules) (s : State) (c : ℕ) (o : Operation) (w v : ℕ) where
-  abbrev own : Frame
+  abbrev pub own : Frame
   own = copy s c (line-of w)
 
-  abbrev own-word : Word
+  abbrev pub own-word : Word
   own-word = word-in (own .content) w
 
-  abbrev own-met : Bool
+  abbrev pub own-met : Bool
   own-met = met o (own-word .state)
 
   -- the core keeps the line and has no earlier request on the word
-  abbrev in-reach : Bool
+  abbrev pub in-reach : Bool
   in-reach = not (any-entry (on-word w) (s .waiting c)) && keeps r s c (line-of w)
 
   -- answered at once: met on a copy that may be used so, or unmet in a class that does not wait
@@ -104,7 +104,7 @@ module _ (r : Rules) (s : State) (c : ℕ) (o : Operation) (w v : ℕ) where
   abbrev pub issue-served : Served
   issue-served = rule o own-word v
 
-  abbrev issue-now : State
+  abbrev pub issue-now : State
   issue-now = record {
     setup = s .setup;
     next = s .next + 1;
@@ -116,7 +116,7 @@ module _ (r : Rules) (s : State) (c : ℕ) (o : Operation) (w v : ℕ) where
   }
 
   -- put at the list's end, asleep if the own copy shows that the condition is unmet
-  abbrev issue-later : State
+  abbrev pub issue-later : State
   issue-later = record {
     setup = s .setup;
     next = s .next + 1;
@@ -127,7 +127,7 @@ module _ (r : Rules) (s : State) (c : ℕ) (o : Operation) (w v : ℕ) where
     memory = s .memory;
   }
 
-  abbrev issue-answer : Answer
+  abbrev pub issue-answer : Answer
   issue-answer = cond answers-now (answer-served (s .next) issue-served (woken s (issue-served .notice) w)) (answer-undone (s .next) Waits Empty)
 
 module _ (r : Rules) (s : State) (c k w v : ℕ) where
@@ -169,10 +169,10 @@ give-back-after s slip = after-unless (first-reason (slip-reasons s slip to-snoo
 
 -- snoop, in its four kinds
 module _ (r : Rules) (s : State) (t : Tenure) where
-  abbrev asked : Operation
+  abbrev pub asked : Operation
   asked = t .entry .operation
 
-  abbrev asked-line : ℕ
+  abbrev pub asked-line : ℕ
   asked-line = line-of (t .entry .word)
 
   -- the word as it stands
@@ -199,14 +199,14 @@ module _ (r : Rules) (s : State) (t : Tenure) where
   snoop-report = record { kind = snoop-kind; keepers = core-bits (λ d. keeps r s d asked-line); met = snoop-met; supplier = cond fetches (supplier r s asked-line) 9 }
 
   -- another cache's copy after it heard of the read or the claim
-  abbrev moved : Frame → Frame
+  abbrev pub moved : Frame → Frame
   moved f = record { code = cond (claims asked) (r .after-claim (f .code)) (r .after-read (f .code)); line = f .line; content = f .content }
 
   -- in a read, another's copy that owed and owes no more
   abbrev pub pays : ℕ → Bool
   pays d = others-keep r s (t .core) asked-line d && (r .owing (copy s d asked-line .code) && not (r .owing (r .after-read (copy s d asked-line .code))))
 
-  abbrev snoop-state : State
+  abbrev pub snoop-state : State
   snoop-state = record {
     setup = s .setup;
     next = s .next;
@@ -236,17 +236,17 @@ module _ (r : Rules) (s : State) (slip : Slip) where
 
 -- settle, after a snoop of kinds 0 to 2: `before` is the line as it was, `code` what its copy would have without a claim
 module _ (r : Rules) (s : State) (t : Tenure) (before : Content) (line code : ℕ) (memory : ℕ → Content) where
-  abbrev settle-done : Served
+  abbrev pub settle-done : Served
   settle-done = done-by (t .entry .operation) (word-in before (t .entry .word)) (t .entry .value)
 
   -- the lists without the request that is answered
-  abbrev rest : ℕ → List Entry
+  abbrev pub rest : ℕ → List Entry
   rest = updated (s .waiting) (t .core) (without (t .entry .number) (s .waiting (t .core)))
 
-  abbrev settled-answer : Answer
+  abbrev pub settled-answer : Answer
   settled-answer = answer-served (t .entry .number) settle-done (over-cores (λ d. countBy (wakes (settle-done .notice) (t .entry .word)) (rest d)))
 
-  abbrev settled-state : State
+  abbrev pub settled-state : State
   settled-state = record {
     setup = s .setup;
     next = s .next;
@@ -270,13 +270,13 @@ module _ (r : Rules) (s : State) (t : Tenure) where
 
 -- settle, after a snoop of kind 3
 module _ (s : State) (t : Tenure) (o : Outcome) where
-  abbrev is-waits : Outcome → Bool
+  abbrev pub is-waits : Outcome → Bool
   is-waits Done = false
   is-waits Discarded = false
   is-waits Trap = false
   is-waits Waits = true
 
-  abbrev unmet-state : State
+  abbrev pub unmet-state : State
   unmet-state = record {
     setup = s .setup;
     next = s .next;
@@ -288,13 +288,13 @@ module _ (s : State) (t : Tenure) (o : Outcome) where
   }
 
 module _ (r : Rules) (s : State) where
-  abbrev settle-answer : Tenure → Found → Answer
+  abbrev pub settle-answer : Tenure → Found → Answer
   settle-answer t own-copy = settled-answer r s t (copy s (t .core) (line-of (t .entry .word)) .content) 0 0 (s .memory)
   settle-answer t (read-in shared f) = settled-answer r s t f 0 0 (s .memory)
   settle-answer t (claimed f) = settled-answer r s t f 0 0 (s .memory)
   settle-answer t (unmet o found) = answer-undone (t .entry .number) o found
 
-  abbrev settle-state : Tenure → Found → State
+  abbrev pub settle-state : Tenure → Found → State
   settle-state t own-copy = settled-state r s t (victim r s t .content) (victim r s t .line) (victim r s t .code) (s .memory)
   settle-state t (read-in shared f) = settled-state r s t f (line-of (t .entry .word)) (r .read-fill shared) (memory-without-victim r s t)
   settle-state t (claimed f) = settled-state r s t f (line-of (t .entry .word)) (r .own-claim) (memory-without-victim r s t)
@@ -319,14 +319,14 @@ module _ (r : Rules) (s : State) (slip : Slip) where
 
 -- withdraw: the entry leaves the list of the lowest core that has it
 module _ (s : State) (k : ℕ) where
-  abbrev holder : ℕ
+  abbrev pub holder : ℕ
   holder = lowest (λ c. any-entry (numbered k) (s .waiting c))
 
   abbrev pub withdraw-reply : Or-refused (Unit {0})
   withdraw-reply = reply-unless (first-reason (withdraw-reasons s k)) tt
 
-  abbrev pub withdraw-after : State
-  withdraw-after = after-unless (first-reason (withdraw-reasons s k)) s (record {
+  abbrev pub withdrawn-state : State
+  withdrawn-state = record {
     setup = s .setup;
     next = s .next;
     counts = count-withdrawn (s .counts);
@@ -334,7 +334,10 @@ module _ (s : State) (k : ℕ) where
     waiting = updated (s .waiting) holder (without k (s .waiting holder));
     bus = s .bus;
     memory = s .memory;
-  })
+  }
+
+  abbrev pub withdraw-after : State
+  withdraw-after = after-unless (first-reason (withdraw-reasons s k)) s withdrawn-state
 
 -- a frame whose copy is dropped
 abbrev pub dropped : Frame → Frame
@@ -345,8 +348,8 @@ module _ (r : Rules) (s : State) (c w : ℕ) where
   abbrev pub evict-reply : Or-refused (Unit {0})
   evict-reply = reply-unless (first-reason (evict-reasons s r c w)) tt
 
-  abbrev pub evict-after : State
-  evict-after = after-unless (first-reason (evict-reasons s r c w)) s (record {
+  abbrev pub evicted-state : State
+  evicted-state = record {
     setup = s .setup;
     next = s .next;
     counts = s .counts;
@@ -354,15 +357,18 @@ module _ (r : Rules) (s : State) (c w : ℕ) where
     waiting = s .waiting;
     bus = s .bus;
     memory = cond (r .owing (copy s c (line-of w) .code)) (updated (s .memory) (line-of w) (copy s c (line-of w) .content)) (s .memory);
-  })
+  }
+
+  abbrev pub evict-after : State
+  evict-after = after-unless (first-reason (evict-reasons s r c w)) s evicted-state
 
 -- drain: every copy is dropped; of several owing copies of a line the lowest core's is written
 module _ (r : Rules) (s : State) where
   abbrev pub drain-reply : Or-refused (Unit {0})
   drain-reply = reply-unless (first-reason (drain-reasons s)) tt
 
-  abbrev pub drain-after : State
-  drain-after = after-unless (first-reason (drain-reasons s)) s (record {
+  abbrev pub drained-state : State
+  drained-state = record {
     setup = s .setup;
     next = s .next;
     counts = s .counts;
@@ -370,7 +376,10 @@ module _ (r : Rules) (s : State) where
     waiting = s .waiting;
     bus = s .bus;
     memory = λ n. cond (any-core (λ c. owes r s c n)) (copy s (lowest (λ c. owes r s c n)) n .content) (s .memory n);
-  })
+  }
+
+  abbrev pub drain-after : State
+  drain-after = after-unless (first-reason (drain-reasons s)) s drained-state
 
   -- look shows the word as it stands
   abbrev pub look-reply : ℕ → Or-refused Word
