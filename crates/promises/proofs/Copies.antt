@@ -29,6 +29,7 @@ claiming (snooped t (unmet o found)) n = false
 -- the words of the one tagged memory are T
 pub record Copies (r : Rules) (T : ℕ → Word) (s : State) : Type 0 where
   pub codes : (c i : ℕ) → s .frame c i .code < 256
+  pub placed : (c i : ℕ) → r .kept (s .frame c i .code) ≡ true → s .frame c i .line % 16 ≡ i
   pub true-copies : (c n : ℕ) → keeps r s c n ≡ true → copy s c n .content ≡ line-by-words T n
   pub alone : Writers-are-alone r s
   pub true-memory : (n : ℕ) → ((c : ℕ) → owes r s c n ≡ false) → claiming (s .bus) n ≡ false → s .memory n ≡ line-by-words T n
@@ -131,6 +132,10 @@ module _ (r : Rules) (law : Lawful r) (T : ℕ → Word) (s : State) (c w : ℕ)
   unfolding after
   evict-copies = record {
     codes = λ d i. ⊎-elim (λ p. rw (p .2) (omega arith)) (λ p. rw (p .1) (was .codes d i)) (frame-cases (s .frame) c (frame-of (line-of w)) (dropped (copy s c (line-of w))) d i);
+    placed = λ d i k.
+        ⊎-elim (λ p. absurd (both-ways (r .kept 0) (law .zero-not-kept) (sym (ap (λ (f : Frame). r .kept (f .code)) (p .2)) ∙ k)))
+        (λ p. ap (λ (f : Frame). f .line % 16) (p .1) ∙ was .placed d i (sym (ap (λ (f : Frame). r .kept (f .code)) (p .1)) ∙ k))
+        (frame-cases (s .frame) c (frame-of (line-of w)) (dropped (copy s c (line-of w))) d i);
     true-copies = fewer-true r T s after was evict-fewer;
     alone = fewer-alone r T s after was evict-fewer;
     true-memory = evict-memory;
@@ -150,6 +155,7 @@ module _ (r : Rules) (law : Lawful r) (T : ℕ → Word) (s : State) (was : Copi
   pub drain-copies : Copies r T (drained-state r s)
   drain-copies = record {
     codes = λ c i. omega arith;
+    placed = λ c i k. absurd (both-ways (r .kept 0) (law .zero-not-kept) k);
     true-copies = λ c n k. absurd (none-kept c n k);
     alone = λ c d n own k. absurd (none-kept d n k);
     true-memory = λ n none claims.

@@ -92,6 +92,23 @@ module _ (r : Rules) (law : Lawful r) (T : ℕ → Word) (s : State) (t : Tenure
       (λ e. rw (cond-false _ _ _ e) (was .codes d i))
       (cases-bool (fetches r s t && (eqb i (n % 16) && others-keep r s (t .core) n d)))
 
+  snoop-placed : (d i : ℕ) → r .kept (after .frame d i .code) ≡ true → after .frame d i .line % 16 ≡ i
+  snoop-placed d i k =
+      ⊎-elim
+      (λ e.
+          let frame : after .frame d i ≡ moved r s t (s .frame d i) = cond-true _ _ _ e in
+          let code = sym (ap (λ (f : Frame). r .kept (f .code)) frame) ∙ k in
+          ap (λ (f : Frame). f .line % 16) frame
+          ∙ was .placed d i
+            (⊎-elim
+            (λ c. absurd (both-ways (r .kept (r .after-claim (s .frame d i .code))) (law .claim-not-kept _ (was .codes d i)) (sym (ap (r .kept) (cond-true _ _ _ c)) ∙ code)))
+            (λ c. law .read-kept _ (was .codes d i) (sym (ap (r .kept) (cond-false _ _ _ c)) ∙ code))
+            (cases-bool (claims (t .entry .operation)))))
+      (λ e.
+          let frame : after .frame d i ≡ s .frame d i = cond-false _ _ _ e in
+          ap (λ (f : Frame). f .line % 16) frame ∙ was .placed d i (sym (ap (λ (f : Frame). r .kept (f .code)) frame) ∙ k))
+      (cases-bool (fetches r s t && (eqb i (n % 16) && others-keep r s (t .core) n d)))
+
   -- kind 1 leaves a read whose own cache does not keep the line
   pub read-own : fetches r s t ≡ true → claims (t .entry .operation) ≡ false → keeps r s (t .core) n ≡ false
   read-own f c =
@@ -188,6 +205,7 @@ module _ (r : Rules) (law : Lawful r) (T : ℕ → Word) (s : State) (t : Tenure
   pub snoop-copies : ((m : ℕ) → claiming (s .bus) m ≡ false) → Copies r T (snoop-state r s t)
   snoop-copies quiet = record {
     codes = snoop-codes;
+    placed = snoop-placed;
     true-copies = fewer-true r T s after was snoop-fewer;
     alone = fewer-alone r T s after was snoop-fewer;
     true-memory = snoop-memory quiet;
