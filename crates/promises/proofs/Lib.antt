@@ -6,3 +6,4 @@ pub mod Open
 pub mod Putting
 pub mod Snooping
 pub mod Standing
+pub mod Tenures

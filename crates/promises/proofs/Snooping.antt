@@ -70,7 +70,7 @@ module _ (r : Rules) (law : Lawful r) (T : ℕ → Word) (s : State) (t : Tenure
   heard-kept : (d m : ℕ) → Heard d m → keeps r after d m ≡ true → keeps r s d m ≡ true
   heard-kept d m h k = ap (keeps r s d) (heard-line d m h (kept-of r after d m k .line)) ∙ h .kept
 
-  snoop-fewer : Fewer r s after
+  pub snoop-fewer : Fewer r s (snoop-state r s t)
   snoop-fewer = record {
     kept = λ d m k. ⊎-elim (λ h. heard-kept d m h k) (λ u. sym (keeps-same r after s d m (u .frame)) ∙ k) (heard-or-not d m);
     content = λ d m k. ⊎-elim (λ h. ap (λ (f : Frame). f .content) (h .frame)) (λ u. ap (λ (f : Frame). f .content) (u .frame)) (heard-or-not d m);
@@ -84,6 +84,16 @@ module _ (r : Rules) (law : Lawful r) (T : ℕ → Word) (s : State) (t : Tenure
         (λ u. sym (owns-same r after s d m (u .frame)) ∙ own)
         (heard-or-not d m);
   }
+
+  -- another's copy of the line that is fetched is not sole afterwards, and not kept after a claim
+  pub heard-not-sole : (d : ℕ) → fetches r s t ≡ true → claims (t .entry .operation) ≡ false → (d ≡ t .core → ⊥) → keeps r s d (line-of (t .entry .word)) ≡ true → r .sole (copy (snoop-state r s t) d (line-of (t .entry .word)) .code) ≡ true → ⊥
+  heard-not-sole d f c ne k e =
+      ⊎-elim (λ h. both-ways (r .sole (r .after-read (copy s d n .code))) (law .read-not-sole _ (was .codes d (n % 16))) (sym (ap (r .sole) (read-code d n h c)) ∙ e))
+      (λ u. u .why f refl ne k)
+      (heard-or-not d n)
+
+  pub heard-not-kept : (d : ℕ) → fetches r s t ≡ true → claims (t .entry .operation) ≡ true → (d ≡ t .core → ⊥) → keeps r s d (line-of (t .entry .word)) ≡ true → keeps r (snoop-state r s t) d (line-of (t .entry .word)) ≡ true → ⊥
+  heard-not-kept d f c ne k e = ⊎-elim (λ h. heard-claim d n h c e) (λ u. u .why f refl ne k) (heard-or-not d n)
 
   snoop-codes : (d i : ℕ) → after .frame d i .code < 256
   snoop-codes d i =
@@ -110,7 +120,7 @@ module _ (r : Rules) (law : Lawful r) (T : ℕ → Word) (s : State) (t : Tenure
       (cases-bool (fetches r s t && (eqb i (n % 16) && others-keep r s (t .core) n d)))
 
   -- kind 1 leaves a read whose own cache does not keep the line
-  pub read-own : fetches r s t ≡ true → claims (t .entry .operation) ≡ false → keeps r s (t .core) n ≡ false
+  pub read-own : fetches r s t ≡ true → claims (t .entry .operation) ≡ false → keeps r s (t .core) (line-of (t .entry .word)) ≡ false
   read-own f c =
       let p = and-parts (snoop-met r s t) _ f in
       let q = not-true (own-suffices r s t) (p .1) in
