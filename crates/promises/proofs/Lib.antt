@@ -4,6 +4,7 @@ pub mod Example
 pub mod Frames
 pub mod Open
 pub mod Putting
+pub mod Settling
 pub mod Snooping
 pub mod Standing
 pub mod Tenures
