@@ -67,3 +67,24 @@ line-kept f w n x ne =
     let third = updated-other f w (4 * n + 2) x (λ e. ne (omega arith)) in
     let fourth = updated-other f w (4 * n + 3) x (λ e. ne (omega arith)) in
     λ i. record { first = first i; second = second i; third = third i; fourth = fourth i }
+
+-- a memory in which word w is changed by g, and its lines
+abbrev pub changed : (ℕ → Word) → (Word → Word) → ℕ → ℕ → Word
+changed T g w = updated T w (g (T w))
+
+module _ (T : ℕ → Word) (g : Word → Word) (w : ℕ) where
+  -- a copy of the line is changed as the line is
+  pub changed-content : (f : Content) → f ≡ line-by-words T (line-of w) → with-word-in f w (g (word-in f w)) ≡ line-by-words (changed T g w) (line-of w)
+  changed-content f e =
+      ap (λ x. with-word-in x w (g (word-in x w))) e
+      ∙ ap (λ x. with-word-in (line-by-words T (line-of w)) w (g x)) (line-word T w)
+      ∙ sym (line-put T w (g (T w)))
+
+  pub changed-other : (m : ℕ) → (m ≡ line-of w → ⊥) → line-by-words (changed T g w) m ≡ line-by-words T m
+  changed-other m ne = line-kept T w m (g (T w)) ne
+
+  pub unchanged-line : g (T w) ≡ T w → line-by-words (changed T g w) (line-of w) ≡ line-by-words T (line-of w)
+  unchanged-line e =
+      line-put T w (g (T w))
+      ∙ ap (λ x. with-word-in (line-by-words T (line-of w)) w x) (e ∙ sym (line-word T w))
+      ∙ put-same (line-by-words T (line-of w)) w

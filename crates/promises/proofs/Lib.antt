@@ -2,6 +2,7 @@ pub mod Contents
 pub mod Copies
 pub mod Example
 pub mod Frames
+pub mod InPlace
 pub mod Open
 pub mod Putting
 pub mod Settling

@@ -16,11 +16,12 @@ use Rattle.promises.specs.Board.{Content, word-in, with-word-in, Frame, Entry,
 use Rattle.promises.specs.Copies.{copy, keeps, owns, owes}
 use Rattle.promises.specs.Steps.{updated, updated-frame, settled-state, settle-state, victim, victim-owes, memory-without-victim}
 use Rattle.promises.specs.OneMemory.{line-by-words}
-use Rattle.promises.proofs.Contents.{updated-same, updated-other, line-word, put-same, line-put, line-kept}
+use Rattle.promises.proofs.Contents.{updated-same, updated-other, changed, changed-content, changed-other, unchanged-line}
 use Rattle.promises.proofs.Frames.{Kept, kept-of, keeps-by, keeps-same}
 use Rattle.promises.proofs.Copies.{claiming, Copies, one-line, owes-same, not-kept-not-owing}
 use Rattle.promises.proofs.Tenures.{Hits, Reads, Claims, Found-true}
-use Rattle.promises.proofs.Putting.{Put, put-cases, put-copies}
+use Rattle.promises.proofs.Putting.{Put, put-copies}
+use Rattle.promises.proofs.InPlace.{claim-owes, changed-in-place}
 
 -- an operation that is no claim leaves the word
 pub unclaimed-word : (o : Operation) (x : Word) (v : ℕ) → claims o ≡ false → done-by o x v .word ≡ x
@@ -31,24 +32,7 @@ unclaimed-word Clear x v e = absurd (both-ways true e refl)
 
 -- the words after a done operation on word w
 abbrev pub served : (ℕ → Word) → Operation → ℕ → ℕ → ℕ → Word
-served T o w v = updated T w (done-by o (T w) v .word)
-
-module _ (T : ℕ → Word) (o : Operation) (w v : ℕ) where
-  -- the line's copy is served as the line is
-  pub served-content : (f : Content) → f ≡ line-by-words T (line-of w) → with-word-in f w (done-by o (word-in f w) v .word) ≡ line-by-words (served T o w v) (line-of w)
-  served-content f e =
-      ap (λ g. with-word-in g w (done-by o (word-in g w) v .word)) e
-      ∙ ap (λ x. with-word-in (line-by-words T (line-of w)) w (done-by o x v .word)) (line-word T w)
-      ∙ sym (line-put T w (done-by o (T w) v .word))
-
-  pub served-other : (m : ℕ) → (m ≡ line-of w → ⊥) → line-by-words (served T o w v) m ≡ line-by-words T m
-  served-other m ne = line-kept T w m (done-by o (T w) v .word) ne
-
-  pub served-unclaimed : claims o ≡ false → line-by-words (served T o w v) (line-of w) ≡ line-by-words T (line-of w)
-  served-unclaimed e =
-      line-put T w (done-by o (T w) v .word)
-      ∙ ap (λ x. with-word-in (line-by-words T (line-of w)) w x) (unclaimed-word o (T w) v e ∙ sym (line-word T w))
-      ∙ put-same (line-by-words T (line-of w)) w
+served T o w v = changed T (λ x. done-by o x v .word) w
 
 module _ (r : Rules) (law : Lawful r) (T : ℕ → Word) (s : State) (t : Tenure) (was : Copies r T s) (core : t .core < 8) where
   abbrev n : ℕ
@@ -60,99 +44,15 @@ module _ (r : Rules) (law : Lawful r) (T : ℕ → Word) (s : State) (t : Tenure
   abbrev T′ : ℕ → Word
   T′ = served T o (t .entry .word) (t .entry .value)
 
-  -- a frame with the own-claim code for line n owes it
-  new-owes : (after : State) (content : Content) → copy after (t .core) n ≡ record { code = r .own-claim; line = n; content = content } → owes r after (t .core) n ≡ true
-  new-owes after content e =
-      and-from (keeps r after (t .core) n) _
-      (keeps-by r after (t .core) n (record { core = core; line = ap (λ (f : Frame). f .line) e; code = ap (λ (f : Frame). r .kept (f .code)) e ∙ law .own-kept }))
-      (ap (λ (f : Frame). r .owing (f .code)) e ∙ law .own-owing)
+  abbrev serve : Word → Word
+  serve x = done-by o x (t .entry .value) .word
 
   -- KIND 0
-  module _ (bus : s .bus ≡ snooped t own-copy) (hits : Hits r s t) where
-    abbrev own : Frame
-    own = victim r s t
-
-    abbrev after : State
-    after = settle-state r s t own-copy
-
-    own-true : own .content ≡ line-by-words T n
-    own-true = was .true-copies (t .core) n (hits .kept)
-
-    abbrev code : ℕ
-    code = cond (claims o) (r .own-claim) (own .code)
-
-    abbrev content : Content
-    content = with-word-in (own .content) (t .entry .word) (done-by o (word-in (own .content) (t .entry .word)) (t .entry .value) .word)
-
-    frames : (d j : ℕ) → after .frame d j ≡ updated-frame (s .frame) (t .core) (frame-of n) (record { code = code; line = n; content = content }) d j
-    frames d j = ap (λ l. updated-frame (s .frame) (t .core) (frame-of n) (record { code = code; line = l; content = content }) d j) (kept-of r s (t .core) n (hits .kept) .line)
-
-    -- the filled frame, and the others
-    own-frame : copy after (t .core) n ≡ record { code = code; line = n; content = content }
-    own-frame = frames (t .core) (frame-of n) ∙ cond-true _ _ _ (and-from _ _ (eq-eqb (t .core) (t .core) refl) (eq-eqb (n % 16) (n % 16) refl))
-
-    other-frame : (d m : ℕ) → ((d ≡ t .core) × (m % 16 ≡ n % 16) → ⊥) → copy after d m ≡ copy s d m
-    other-frame d m apart =
-        ⊎-elim (λ e. cond-false _ _ _ (and-right _ _ (ne-eqb (m % 16) (n % 16) (λ g. apart (e, g))))) (λ ne. cond-false _ _ _ (and-left _ _ (ne-eqb d (t .core) ne))) (cases-eq d (t .core))
-
-    memory : (m : ℕ) → ((d : ℕ) → owes r after d m ≡ false) → s .memory m ≡ line-by-words T′ m
-    memory m none = ⊎-elim here elsewhere (cases-eq m n)
-      where
-        silent : claiming (s .bus) m ≡ false
-        silent = ap (λ b. claiming b m) bus
-
-        here : m ≡ n → s .memory m ≡ line-by-words T′ m
-        here e =
-            ⊎-elim
-            (λ c. absurd (both-ways _ (none (t .core)) (ap (owes r after (t .core)) e ∙ new-owes after content (own-frame ∙ ap (λ k. record { code = k; line = n; content = content }) (cond-true _ _ _ c)))))
-            (λ c.
-                was .true-memory m
-                (λ d.
-                    ⊎-elim
-                    (λ same.
-                        let is : owes r s (t .core) n ≡ owes r after (t .core) n =
-                            λ i.
-                                (hits .kept ∙ sym (keeps-by r after (t .core) n (record { core = core; line = ap (λ (f : Frame). f .line) own-frame; code = ap (λ (f : Frame). r .kept (f .code)) own-frame ∙ ap (r .kept) (cond-false _ _ _ c) ∙ kept-of r s (t .core) n (hits .kept) .code }))) i
-                                && r .owing ((sym (ap (λ (f : Frame). f .code) own-frame ∙ cond-false _ _ _ c)) i)
-                        in
-                        ap (λ x. owes r s x m) same ∙ ap (owes r s (t .core)) e ∙ is ∙ ap (owes r after (t .core)) (sym e) ∙ none (t .core))
-                    (λ ne. sym (owes-same r after s d m (other-frame d m (λ both. ne (both .0)))) ∙ none d)
-                    (cases-eq d (t .core)))
-                silent
-                ∙ ap (line-by-words T) e ∙ sym (served-unclaimed T o (t .entry .word) (t .entry .value) c) ∙ ap (line-by-words T′) (sym e))
-            (cases-bool (claims o))
-
-        elsewhere : (m ≡ n → ⊥) → s .memory m ≡ line-by-words T′ m
-        elsewhere ne =
-            was .true-memory m
-            (λ d.
-                ⊎-elim
-                (λ k.
-                    let apart : (d ≡ t .core) × (m % 16 ≡ n % 16) → ⊥ = λ both. ne (one-line r s (t .core) m n (ap (λ x. keeps r s x m) (sym (both .0)) ∙ k) (hits .kept) (both .1)) in
-                    sym (owes-same r after s d m (other-frame d m apart)) ∙ none d)
-                (λ no-copy. and-left (keeps r s d m) _ no-copy)
-                (cases-bool (keeps r s d m)))
-            silent
-            ∙ sym (served-other T o (t .entry .word) (t .entry .value) m ne)
-
-    -- a claim was made on the only copy
-    alone-claim : claims o ≡ true → (d : ℕ) → keeps r s d n ≡ true → d ≡ t .core
-    alone-claim c d k = was .alone (t .core) d n (and-from (keeps r s (t .core) n) _ (hits .kept) (hits .sole c)) k
-
-    put : Put r T T′ s (t .core) n code content after
-    put = record {
-      frames = frames;
-      code-fits = ⊎-elim (λ c. rw (cond-true _ _ _ c) (law .own-fits)) (λ c. rw (cond-false _ _ _ c) (was .codes (t .core) (n % 16))) (cases-bool (claims o));
-      true-content = served-content T o (t .entry .word) (t .entry .value) (own .content) own-true;
-      other-lines = served-other T o (t .entry .word) (t .entry .value);
-      shared-line = λ d ne k. ⊎-elim (λ c. absurd (ne (alone-claim c d k))) (λ c. served-unclaimed T o (t .entry .word) (t .entry .value) c) (cases-bool (claims o));
-      only = λ e d ne k. ⊎-elim (λ c. ne (alone-claim c d k)) (λ c. ne (was .alone (t .core) d n (and-from (keeps r s (t .core) n) _ (hits .kept) (sym (ap (r .sole) (cond-false _ _ _ c)) ∙ e)) k)) (cases-bool (claims o));
-      no-owner = λ d ne own. ne (sym (was .alone d (t .core) n own (hits .kept)));
-      true-memory = λ m none quiet. memory m none;
-    }
-
-    pub settle-hit : Copies r T′ (settle-state r s t own-copy)
-    settle-hit = put-copies r T T′ s (t .core) n code content after was put
+  pub settle-hit : s .bus ≡ snooped t own-copy → Hits r s t → Copies r T′ (settle-state r s t own-copy)
+  settle-hit bus hits =
+      changed-in-place r law T s (t .core) (t .entry .word) serve (claims o) (settle-state r s t own-copy) was (hits .kept) (hits .sole)
+      (unclaimed-word o (T (t .entry .word)) (t .entry .value))
+      (λ d j. refl) (λ m. refl) (λ m quiet. ap (λ b. claiming b m) bus)
 
   -- KINDS 1 AND 2: another line in the frame goes first
   abbrev out : Frame
@@ -266,9 +166,9 @@ module _ (r : Rules) (law : Lawful r) (T : ℕ → Word) (s : State) (t : Tenure
         put = record {
           frames = λ d j. refl;
           code-fits = rw (cond-false (claims o) (r .own-claim) fill c) fill-fits;
-          true-content = served-content T o (t .entry .word) (t .entry .value) f line;
-          other-lines = served-other T o (t .entry .word) (t .entry .value);
-          shared-line = λ d ne k. served-unclaimed T o (t .entry .word) (t .entry .value) c;
+          true-content = changed-content T serve (t .entry .word) f line;
+          other-lines = changed-other T serve (t .entry .word);
+          shared-line = λ d ne k. unchanged-line T serve (t .entry .word) (unclaimed-word o (T (t .entry .word)) (t .entry .value) c);
           only = λ e d ne k.
               ⊎-elim
               (λ sh. both-ways _ (law .fill-not-sole) (ap (λ b. r .sole (r .read-fill b)) (sym sh) ∙ sym (ap (r .sole) code) ∙ e))
@@ -277,7 +177,7 @@ module _ (r : Rules) (law : Lawful r) (T : ℕ → Word) (s : State) (t : Tenure
           no-owner = λ d ne own. reads .none-sole d own;
           true-memory = λ m none quiet.
               out-memory m (λ e k. reads .own k) (others-paid m none) (ap (λ b. claiming b m) bus)
-              ∙ ⊎-elim (λ e. ap (line-by-words T) e ∙ sym (served-unclaimed T o (t .entry .word) (t .entry .value) c) ∙ ap (line-by-words T′) (sym e)) (λ ne. sym (served-other T o (t .entry .word) (t .entry .value) m ne)) (cases-eq m n);
+              ∙ ⊎-elim (λ e. ap (line-by-words T) e ∙ sym (unchanged-line T serve (t .entry .word) (unclaimed-word o (T (t .entry .word)) (t .entry .value) c)) ∙ ap (line-by-words T′) (sym e)) (λ ne. sym (changed-other T serve (t .entry .word) m ne)) (cases-eq m n);
         }
 
     -- KIND 2
@@ -291,16 +191,16 @@ module _ (r : Rules) (law : Lawful r) (T : ℕ → Word) (s : State) (t : Tenure
         put = record {
           frames = λ d j. refl;
           code-fits = rw (cond-true (claims o) (r .own-claim) fill c) (law .own-fits);
-          true-content = served-content T o (t .entry .word) (t .entry .value) f line;
-          other-lines = served-other T o (t .entry .word) (t .entry .value);
+          true-content = changed-content T serve (t .entry .word) f line;
+          other-lines = changed-other T serve (t .entry .word);
           shared-line = λ d ne k. absurd (taken .others d ne k);
           only = λ e d ne k. taken .others d ne k;
           no-owner = λ d ne own. taken .others d ne (and-parts (keeps r s d n) _ own .0);
           true-memory = λ m none quiet.
               ⊎-elim
-              (λ e. absurd (both-ways _ (none (t .core)) (ap (owes r fetched-state (t .core)) e ∙ new-owes fetched-state fetched-content (fetched-frame ∙ ap (λ k. record { code = k; line = n; content = fetched-content }) (cond-true _ _ _ c)))))
+              (λ e. absurd (both-ways _ (none (t .core)) (ap (owes r fetched-state (t .core)) e ∙ claim-owes r law fetched-state (t .core) n fetched-content core (fetched-frame ∙ ap (λ k. record { code = k; line = n; content = fetched-content }) (cond-true _ _ _ c)))))
               (λ ne.
                   out-memory m (λ e k. ne e) (others-paid m none) (ap (λ b. claiming b m) bus ∙ ne-eqb n m (λ e. ne (sym e)))
-                  ∙ sym (served-other T o (t .entry .word) (t .entry .value) m ne))
+                  ∙ sym (changed-other T serve (t .entry .word) m ne))
               (cases-eq m n);
         }
