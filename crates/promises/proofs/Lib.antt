@@ -1,5 +1,6 @@
 pub mod Contents
 pub mod Copies
+pub mod Entries
 pub mod Example
 pub mod Frames
 pub mod InPlace
