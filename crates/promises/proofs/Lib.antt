@@ -8,5 +8,6 @@ pub mod Open
 pub mod Putting
 pub mod Settling
 pub mod Snooping
+pub mod Sound
 pub mod Standing
 pub mod Tenures

@@ -7,21 +7,22 @@ use native.Mathlib.Omega.{arith}
 use lib.Dec.{eqb, ltb}
 use Rattle.std.proofs.shelf.Tests.{cases-eq, cases-bool, eq-eqb, ne-eqb, eqb-true, not-true, not-false, not-from-true, not-from-false, and-parts, and-from, and-left, and-right, and-cases, or-cases, or-left, or-right, or-parts, both-ways, cond-true, cond-false}
 use Rattle.protocol.specs.Rules.{Rules, Lawful}
-use Rattle.tagged.specs.Operations.{claims}
-use Rattle.tagged.specs.Rule.{met, done-by}
+use Rattle.tagged.specs.Operations.{claims, class-of}
+use Rattle.tagged.specs.Rule.{met, unmet-outcome}
+use Rattle.tagged.specs.declared.operations.Class.the-variants.{Unconditional, Waiting, NonFaulting, Trapping}
 use Rattle.tagged.specs.declared.operations.Operation.{Operation}
 use Rattle.tagged.specs.declared.operations.Operation.the-variants.{Read, Write, Clear}
 use Rattle.tagged.specs.declared.words.Word.{Word}
+use Rattle.tagged.specs.declared.words.WordState.{WordState}
 use Rattle.promises.specs.Board.{Content, word-in, with-word-in, Frame, Entry, Tenure, Found, own-copy, read-in, claimed, unmet, Bus, free, granted, snooped, State, line-of, frame-of}
 use Rattle.promises.specs.Copies.{copy, keeps, owns, owes, others-keep, any-core, supplied, stands}
-use Rattle.promises.specs.Steps.{updated, own-suffices, fetches, snoop-met, snoop-found, snoop-state, settled-state, settle-state, victim, victim-owes, memory-without-victim}
-use Rattle.promises.specs.OneMemory.{line-by-words}
+use Rattle.promises.specs.Steps.{updated, own-suffices, fetches, snoop-met, snoop-found, snoop-state}
+use Rattle.promises.specs.OneMemory.{line-by-words, is-done}
 use Rattle.promises.proofs.Contents.{updated-same, updated-other, line-word, put-same, line-put, line-kept}
 use Rattle.promises.proofs.Frames.{Kept, kept-of, keeps-by, keeps-same, any-from}
 use Rattle.promises.proofs.Copies.{claiming, Copies, Fewer, one-line, owes-same, owns-same, not-kept-not-owing}
 use Rattle.promises.proofs.Standing.{Travels-true, stands-true, fetched-true}
 use Rattle.promises.proofs.Snooping as snooping
-use Rattle.promises.proofs.Putting.{Put, put-cases, put-copies}
 
 -- kind 0: the own copy suffices
 pub record Hits (r : Rules) (s : State) (t : Tenure) : Type 0 where
@@ -51,7 +52,7 @@ abbrev pub Found-true : Rules → (ℕ → Word) → State → Tenure → Found 
 Found-true r T s t own-copy = Hits r s t × Met T t
 Found-true r T s t (read-in shared f) = Reads r T s t shared f × Met T t
 Found-true r T s t (claimed f) = Claims r T s t f × Met T t
-Found-true r T s t (unmet o found) = Unit {0}
+Found-true r T s t (unmet o found) = is-done o ≡ false
 
 abbrev pub Bus-true : Rules → (ℕ → Word) → State → Bus → Type 0
 Bus-true r T s free = Unit {0}
@@ -65,6 +66,59 @@ travels-true r T s (snooped t own-copy) h = tt
 travels-true r T s (snooped t (read-in shared f)) h = h .0 .line
 travels-true r T s (snooped t (claimed f)) h = h .0 .line
 travels-true r T s (snooped t (unmet o found)) h = tt
+
+-- an unmet operation is not done
+pub unmet-undone : (o : Operation) (x : WordState) → met o x ≡ false → is-done (unmet-outcome (class-of o)) ≡ false
+unmet-undone (Read Unconditional a) x e = absurd (both-ways true e refl)
+unmet-undone (Read Waiting a) x e = refl
+unmet-undone (Read NonFaulting a) x e = refl
+unmet-undone (Read Trapping a) x e = refl
+unmet-undone (Write Unconditional a) x e = absurd (both-ways true e refl)
+unmet-undone (Write Waiting a) x e = refl
+unmet-undone (Write NonFaulting a) x e = refl
+unmet-undone (Write Trapping a) x e = refl
+unmet-undone Clear x e = absurd (both-ways true e refl)
+
+-- the copies of line m are kept with the same codes in both states
+pub record Like (r : Rules) (s t : State) (m : ℕ) : Type 0 where
+  pub kept : (d : ℕ) → keeps r t d m ≡ keeps r s d m
+  pub code : (d : ℕ) → keeps r s d m ≡ true → copy t d m .code ≡ copy s d m .code
+
+-- what was found stays true where the line's copies, the line and the word's state stay
+module _ (r : Rules) (T T′ : ℕ → Word) (s s′ : State) (t : Tenure) (like : Like r s s′ (line-of (t .entry .word))) (line : line-by-words T′ (line-of (t .entry .word)) ≡ line-by-words T (line-of (t .entry .word))) (word : T′ (t .entry .word) ≡ T (t .entry .word)) where
+  owned : (d : ℕ) → owns r s′ d (line-of (t .entry .word)) ≡ true → owns r s d (line-of (t .entry .word)) ≡ true
+  owned d e =
+      let p = and-parts (keeps r s′ d (line-of (t .entry .word))) _ e in
+      let k = sym (like .kept d) ∙ p .0 in
+      and-from (keeps r s d (line-of (t .entry .word))) _ k (sym (ap (r .sole) (like .code d k)) ∙ p .1)
+
+  still-met : Met T t → Met T′ t
+  still-met m = ap (λ (x : Word). met (t .entry .operation) (x .state)) word ∙ m
+
+  pub found-like : (f : Found) → Found-true r T s t f → Found-true r T′ s′ t f
+  found-like own-copy h = (record { kept = like .kept (t .core) ∙ h .0 .kept; sole = λ c. ap (r .sole) (like .code (t .core) (h .0 .kept)) ∙ h .0 .sole c }, still-met (h .1))
+  found-like (read-in shared f) h =
+      (
+        record {
+          line = h .0 .line ∙ sym line;
+          own = λ k. h .0 .own (sym (like .kept (t .core)) ∙ k);
+          none-sole = λ d o. h .0 .none-sole d (owned d o);
+          unshared = λ e d k. h .0 .unshared e d (sym (like .kept d) ∙ k);
+          read = h .0 .read;
+        },
+        still-met (h .1),
+      )
+  found-like (claimed f) h =
+      (
+        record {
+          line = h .0 .line ∙ sym line;
+          others = λ d ne k. h .0 .others d ne (sym (like .kept d) ∙ k);
+          own = λ o. h .0 .own (owned (t .core) o);
+          claim = h .0 .claim;
+        },
+        still-met (h .1),
+      )
+  found-like (unmet o found) h = h
 
 -- SNOOP finds what is true
 module _ (r : Rules) (law : Lawful r) (T : ℕ → Word) (s : State) (t : Tenure) (was : Copies r T s) (line : Travels-true T (s .bus)) (quiet : (m : ℕ) → claiming (s .bus) m ≡ false) where
@@ -145,5 +199,5 @@ module _ (r : Rules) (law : Lawful r) (T : ℕ → Word) (s : State) (t : Tenure
               (λ c. subst (Found-true r T after t) (sym (cond-true _ _ _ m ∙ cond-false _ _ _ e ∙ cond-false _ _ _ c)) (reads f c, is-met m))
               (cases-bool (claims (t .entry .operation))))
           (cases-bool (own-suffices r s t)))
-      (λ m. subst (Found-true r T after t) (sym (cond-false _ _ _ m)) tt)
+      (λ m. subst (Found-true r T after t) (sym (cond-false _ _ _ m)) (unmet-undone (t .entry .operation) _ m))
       (cases-bool (snoop-met r s t))

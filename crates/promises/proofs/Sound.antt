@@ -1,0 +1,75 @@
+-- What every run keeps of copies, bus and lists, beside the one tagged memory m.
+use mathlib.Core.Path.{_≡_, refl, sym, ap, subst, _∙_}
+use mathlib.Core.Bool.{Bool, true, false, cond, not, _&&_, _||_}
+use mathlib.Core.List.{List, [], _∷_, _++_, map}
+use mathlib.Core.Logic.{_⊎_, inl, inr, ⊎-elim}
+use Prim.Native.Nat.{ℕ, _+_, _%_, _<_, _≤_}
+use native.Mathlib.Omega.{arith}
+use lib.Dec.{eqb}
+use Rattle.std.proofs.shelf.Tests.{cases-eq, cases-bool, both-ways, cond-true, cond-false}
+use Rattle.std.specs.declared.option.Option.{Option}
+use Rattle.std.specs.declared.option.Option.the-variants.{Some, None}
+use Rattle.protocol.specs.Rules.{Rules, Lawful}
+use Rattle.tagged.specs.declared.refusals.Refusal.{Refusal}
+use Rattle.tagged.specs.declared.words.Word.{Word}
+use Rattle.promises.specs.Board.{Content, Frame, Entry, Tenure, Bus, free, granted, snooped, State}
+use Rattle.promises.specs.Calls.{Or-refused, Call}
+use Rattle.promises.specs.Copies.{copy, keeps, owns, owes}
+use Rattle.promises.specs.Refusing.{Reasons, first-reason, reply-unless, after-unless}
+use Rattle.promises.specs.Steps.{Agree}
+use Rattle.promises.specs.OneMemory.{Note, Tagged-memory, line-by-words, feed}
+use Rattle.promises.specs.Promises.{Every-entry, Writers-are-alone}
+use Rattle.promises.proofs.Frames.{keeps-same, same-state-as}
+use Rattle.promises.proofs.Copies.{claiming, Copies, owes-same, owns-same}
+use Rattle.promises.proofs.Entries.{Present}
+use Rattle.promises.proofs.Tenures.{Bus-true}
+
+-- the note under which a waiting request was issued by core c
+abbrev pub note-of : ℕ → Entry → Note
+note-of c e = record { core = c; operation = e .operation; word = e .word; value = e .value }
+
+-- a waiting request was noted as it is, under a number that was given
+pub record Noted (m : Tagged-memory) (next c : ℕ) (e : Entry) : Type 0 where
+  pub note : m .noted (e .number) ≡ Some (note-of c e)
+  pub below : e .number < next
+
+-- the request that has the bus waits in its core's list
+pub record Waits-in (s : State) (t : Tenure) : Type 0 where
+  pub core : t .core < 8
+  pub present : Present (t .entry) (s .waiting (t .core))
+
+abbrev pub Tenure-waits : State → Bus → Type 0
+Tenure-waits s free = Unit {0}
+Tenure-waits s (granted t) = Waits-in s t
+Tenure-waits s (snooped t f) = Waits-in s t
+
+pub record Sound (r : Rules) (m : Tagged-memory) (s : State) : Type 0 where
+  pub few-cores : s .setup .cores ≤ 8
+  pub copies : Copies r (m .word) s
+  pub bus : Bus-true r (m .word) s (s .bus)
+  pub notes : (c : ℕ) → Every-entry (Noted m (s .next) c) (s .waiting c)
+  pub tenure : Tenure-waits s (s .bus)
+
+-- the same frames and memory, and no line more that is not being claimed
+module _ (r : Rules) (T : ℕ → Word) (s t : State) (frames : (d i : ℕ) → t .frame d i ≡ s .frame d i) (memory : (n : ℕ) → t .memory n ≡ s .memory n) (bus : (n : ℕ) → claiming (t .bus) n ≡ false → claiming (s .bus) n ≡ false) where
+  pub same-frames : Copies r T s → Copies r T t
+  same-frames was = record {
+    codes = λ d i. subst (λ (f : Frame). f .code < 256) (sym (frames d i)) (was .codes d i);
+    placed = λ d i. subst (λ (f : Frame). r .kept (f .code) ≡ true → f .line % 16 ≡ i) (sym (frames d i)) (was .placed d i);
+    true-copies = λ d n k. ap (λ (f : Frame). f .content) (frames d (n % 16)) ∙ was .true-copies d n (sym (keeps-same r t s d n (frames d (n % 16))) ∙ k);
+    alone = λ c d n own k. was .alone c d n (sym (owns-same r t s c n (frames c (n % 16))) ∙ own) (sym (keeps-same r t s d n (frames d (n % 16))) ∙ k);
+    true-memory = λ n none quiet. memory n ∙ was .true-memory n (λ d. sym (owes-same r t s d n (frames d (n % 16))) ∙ none d) (bus n quiet);
+  }
+
+-- a call that is not refused meets no reason
+pub no-reason : (p : Refusal × Bool) (ps : Reasons) → first-reason (p ∷ ps) ≡ None → (p .1 ≡ false) × (first-reason ps ≡ None)
+no-reason p ps e =
+    ⊎-elim
+    (λ t. absurd (let z : _≡_ {A = Option Refusal} (Some (p .0)) None = sym (cond-true _ _ _ t) ∙ e in let y : _≡_ {A = ℕ} 0 1 = cc in omega arith))
+    (λ f. (f, sym (cond-false _ _ _ f) ∙ e))
+    (cases-bool (p .1))
+
+-- a step: refused, it leaves all as it was; else what is to be shown of the call
+pub step-sound : {A : Type 0} (r : Rules) (m : Tagged-memory) (s t after : State) (call : Or-refused A → Call) (q : Option Refusal) (x : A) (a : Or-refused A) → a ≡ reply-unless q x → Agree t (after-unless q s after) → Sound r m s → ((e : Refusal) → feed m (call (reply-unless (Some e) x)) ≡ m) → (q ≡ None → Sound r (feed m (call (reply-unless None x))) after) → Sound r (feed m (call a)) t
+step-sound r m s t after call None x a is agree was refused accepted = subst (λ b. Sound r (feed m (call b)) t) (sym is) (subst (Sound r (feed m (call (reply-unless None x)))) (sym (same-state-as agree)) (accepted refl))
+step-sound r m s t after call (Some e) x a is agree was refused accepted = subst (λ b. Sound r (feed m (call b)) t) (sym is) (subst (λ n. Sound r n t) (sym (refused e)) (subst (Sound r m) (sym (same-state-as agree)) was))
