@@ -4,6 +4,8 @@ pub mod Entries
 pub mod Example
 pub mod Frames
 pub mod InPlace
+pub mod OnBus
+pub mod OnEvict
 pub mod Open
 pub mod Putting
 pub mod Settling

@@ -61,12 +61,18 @@ module _ (r : Rules) (T : ℕ → Word) (s t : State) (frames : (d i : ℕ) → 
     true-memory = λ n none quiet. memory n ∙ was .true-memory n (λ d. sym (owes-same r t s d n (frames d (n % 16))) ∙ none d) (bus n quiet);
   }
 
+-- no condition of the list holds
+abbrev pub All-clear : Reasons → Type 0
+All-clear [] = Unit {0}
+All-clear (p ∷ ps) = (p .1 ≡ false) × All-clear ps
+
 -- a call that is not refused meets no reason
-pub no-reason : (p : Refusal × Bool) (ps : Reasons) → first-reason (p ∷ ps) ≡ None → (p .1 ≡ false) × (first-reason ps ≡ None)
-no-reason p ps e =
+pub cleared : (ps : Reasons) → first-reason ps ≡ None → All-clear ps
+cleared [] e = tt
+cleared (p ∷ ps) e =
     ⊎-elim
     (λ t. absurd (let z : _≡_ {A = Option Refusal} (Some (p .0)) None = sym (cond-true _ _ _ t) ∙ e in let y : _≡_ {A = ℕ} 0 1 = cc in omega arith))
-    (λ f. (f, sym (cond-false _ _ _ f) ∙ e))
+    (λ f. (f, cleared ps (sym (cond-false _ _ _ f) ∙ e)))
     (cases-bool (p .1))
 
 -- a step: refused, it leaves all as it was; else what is to be shown of the call

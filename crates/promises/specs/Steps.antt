@@ -146,11 +146,11 @@ with-bus s b = record { setup = s .setup; next = s .next; counts = s .counts; fr
 
 -- grant: the core's oldest ready request gets the bus
 module _ (s : State) (c : ℕ) where
-  abbrev grant-slip : Option Entry → Slip
+  abbrev pub grant-slip : Option Entry → Slip
   grant-slip None = record { board = s .setup .board; number = 0; stage = to-snoop }
   grant-slip (Some e) = record { board = s .setup .board; number = e .number; stage = to-snoop }
 
-  abbrev grant-bus : Option Entry → Bus
+  abbrev pub grant-bus : Option Entry → Bus
   grant-bus None = free
   grant-bus (Some e) = granted (record { core = c; entry = e })
 
