@@ -17,6 +17,13 @@ updated-same f k x = cond-true (eqb k k) x (f k) (eq-eqb k k refl)
 pub updated-other : {A : Type 0} (f : ℕ → A) (k j : ℕ) (x : A) → (j ≡ k → ⊥) → updated f k x j ≡ f j
 updated-other f k j x ne = cond-false (eqb j k) x (f j) (ne-eqb j k ne)
 
+-- putting back what is there changes nothing
+pub updated-back : {A : Type 0} (f : ℕ → A) (k : ℕ) (x : A) → x ≡ f k → updated f k x ≡ f
+updated-back f k x e = λ i j. at j i
+  where
+    at : (j : ℕ) → updated f k x j ≡ f j
+    at j = ⊎-elim (λ same. ap (updated f k x) same ∙ updated-same f k x ∙ e ∙ ap f (sym same)) (λ ne. updated-other f k j x ne) (cases-eq j k)
+
 -- the four places of a line
 place-of : (k : ℕ) → k < 4 → (k ≡ 0) ⊎ ((k ≡ 1) ⊎ ((k ≡ 2) ⊎ (k ≡ 3)))
 place-of zero h = inl refl
@@ -35,6 +42,14 @@ line-word f w =
     ⊎-elim (λ e. rw e (ap f (omega arith)))
     (⊎-elim (λ e. rw e (ap f (omega arith))) (⊎-elim (λ e. rw e (ap f (omega arith))) (λ e. rw e (ap f (omega arith)))))
     (places w)
+
+-- the line of a memory's words is the memory's line
+pub opening-line : (f : ℕ → Content) (n : ℕ) → f n ≡ line-by-words (λ w. word-in (f (line-of w)) w) n
+unfolding word-in
+opening-line f n = λ i. record { first = at (4 * n) 0 (omega arith) (omega arith) i; second = at (4 * n + 1) 1 (omega arith) (omega arith) i; third = at (4 * n + 2) 2 (omega arith) (omega arith) i; fourth = at (4 * n + 3) 3 (omega arith) (omega arith) i }
+  where
+    at : (w k : ℕ) → n ≡ w / 4 → k ≡ w % 4 → at-place k (f n) ≡ at-place (w % 4) (f (w / 4))
+    at w k e g = λ i. at-place (g i) (f (e i))
 
 pub put-same : (f : Content) (w : ℕ) → with-word-in f w (word-in f w) ≡ f
 unfolding word-in with-word-in

@@ -108,16 +108,16 @@ module _ (r : Rules) (law : Lawful r) (T : ℕ → Word) (s : State) (c w : ℕ)
       here e =
           ⊎-elim
           (λ t.
-              ap (λ (m : ℕ → Content). m n) (cond-true (r .owing (copy s c (line-of w) .code)) _ (s .memory) t)
-              ∙ ap (updated (s .memory) (line-of w) (copy s c (line-of w) .content)) e
-              ∙ updated-same (s .memory) (line-of w) (copy s c (line-of w) .content)
-              ∙ was .true-copies c (line-of w) kept
-              ∙ ap (line-by-words T) (sym e))
+          ap (λ (m : ℕ → Content). m n) (cond-true (r .owing (copy s c (line-of w) .code)) _ (s .memory) t)
+          ∙ ap (updated (s .memory) (line-of w) (copy s c (line-of w) .content)) e
+          ∙ updated-same (s .memory) (line-of w) (copy s c (line-of w) .content)
+          ∙ was .true-copies c (line-of w) kept
+          ∙ ap (line-by-words T) (sym e))
           (λ f.
-              ap (λ (m : ℕ → Content). m n) (cond-false (r .owing (copy s c (line-of w) .code)) _ (s .memory) f)
-              ∙ was .true-memory n
-                (λ d. ⊎-elim (λ same. ap (λ x. owes r s x n) same ∙ ap (owes r s c) e ∙ and-right (keeps r s c (line-of w)) _ f) (λ ne. still d n (λ _ same. ne same) (none d)) (cases-eq d c))
-                quiet)
+          ap (λ (m : ℕ → Content). m n) (cond-false (r .owing (copy s c (line-of w) .code)) _ (s .memory) f)
+          ∙ was .true-memory n
+          (λ d. ⊎-elim (λ same. ap (λ x. owes r s x n) same ∙ ap (owes r s c) e ∙ and-right (keeps r s c (line-of w)) _ f) (λ ne. still d n (λ _ same. ne same) (none d)) (cases-eq d c))
+          quiet)
           (cases-bool (r .owing (copy s c (line-of w) .code)))
 
       elsewhere : (n ≡ line-of w → ⊥) → after .memory n ≡ line-by-words T n
@@ -161,12 +161,12 @@ module _ (r : Rules) (law : Lawful r) (T : ℕ → Word) (s : State) (was : Copi
     true-memory = λ n none claims.
         ⊎-elim
         (λ t.
-            let low = lowest-passes (λ c. owes r s c n) t in
-            cond-true _ _ (s .memory n) t ∙ was .true-copies _ n (and-parts (keeps r s (lowest (λ c. owes r s c n)) n) _ (low .0) .0))
+        let low = lowest-passes (λ c. owes r s c n) t in
+        cond-true _ _ (s .memory n) t ∙ was .true-copies _ n (and-parts (keeps r s (lowest (λ c. owes r s c n)) n) _ (low .0) .0))
         (λ f.
-            cond-false _ _ (s .memory n) f
-            ∙ was .true-memory n
-              (λ c. ⊎-elim (λ k. none-passes (λ c. owes r s c n) f c (kept-of r s c n k .core)) (λ no-copy. and-left (keeps r s c n) _ no-copy) (cases-bool (keeps r s c n)))
-              (free-claims-none (s .bus) n quiet))
+        cond-false _ _ (s .memory n) f
+        ∙ was .true-memory n
+        (λ c. ⊎-elim (λ k. none-passes (λ c. owes r s c n) f c (kept-of r s c n k .core)) (λ no-copy. and-left (keeps r s c n) _ no-copy) (cases-bool (keeps r s c n)))
+        (free-claims-none (s .bus) n quiet))
         (cases-bool (any-core (λ c. owes r s c n)));
   }

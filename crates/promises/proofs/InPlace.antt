@@ -54,8 +54,8 @@ module _ (r : Rules) (law : Lawful r) (T : ℕ → Word) (s : State) (c w : ℕ)
     own-owes : claim ≡ false → owes r s c n ≡ owes r after c n
     own-owes e =
         λ i.
-            (kept ∙ sym (keeps-by r after c n (record { core = kept-of r s c n kept .core; line = ap (λ (f : Frame). f .line) own-frame; code = ap (λ (f : Frame). r .kept (f .code)) own-frame ∙ ap (r .kept) (cond-false _ _ _ e) ∙ kept-of r s c n kept .code }))) i
-            && r .owing ((sym (ap (λ (f : Frame). f .code) own-frame ∙ cond-false _ _ _ e)) i)
+        (kept ∙ sym (keeps-by r after c n (record { core = kept-of r s c n kept .core; line = ap (λ (f : Frame). f .line) own-frame; code = ap (λ (f : Frame). r .kept (f .code)) own-frame ∙ ap (r .kept) (cond-false _ _ _ e) ∙ kept-of r s c n kept .code }))) i
+        && r .owing ((sym (ap (λ (f : Frame). f .code) own-frame ∙ cond-false _ _ _ e)) i)
 
     true-memory : (m : ℕ) → ((d : ℕ) → owes r after d m ≡ false) → claiming (after .bus) m ≡ false → after .memory m ≡ line-by-words (changed T g w) m
     true-memory m none quiet = memory m ∙ ⊎-elim here elsewhere (cases-eq m n)
@@ -65,25 +65,25 @@ module _ (r : Rules) (law : Lawful r) (T : ℕ → Word) (s : State) (c w : ℕ)
             ⊎-elim
             (λ t. absurd (both-ways _ (none c) (ap (owes r after c) e ∙ claim-owes r law after c n content (kept-of r s c n kept .core) (own-frame ∙ ap (λ k. record { code = k; line = n; content = content }) (cond-true _ _ _ t)))))
             (λ f.
-                was .true-memory m
-                (λ d.
-                    ⊎-elim (λ same. ap (λ x. owes r s x m) same ∙ ap (owes r s c) e ∙ own-owes f ∙ ap (owes r after c) (sym e) ∙ none c)
-                    (λ ne. sym (owes-same r after s d m (other-frame d m (λ both. ne (both .0)))) ∙ none d)
-                    (cases-eq d c))
-                (bus m quiet)
-                ∙ ap (line-by-words T) e ∙ sym (unchanged-line T g w (stays f)) ∙ ap (line-by-words (changed T g w)) (sym e))
+            was .true-memory m
+            (λ d.
+            ⊎-elim (λ same. ap (λ x. owes r s x m) same ∙ ap (owes r s c) e ∙ own-owes f ∙ ap (owes r after c) (sym e) ∙ none c)
+            (λ ne. sym (owes-same r after s d m (other-frame d m (λ both. ne (both .0)))) ∙ none d)
+            (cases-eq d c))
+            (bus m quiet)
+            ∙ ap (line-by-words T) e ∙ sym (unchanged-line T g w (stays f)) ∙ ap (line-by-words (changed T g w)) (sym e))
             (cases-bool claim)
 
         elsewhere : (m ≡ n → ⊥) → s .memory m ≡ line-by-words (changed T g w) m
         elsewhere ne =
             was .true-memory m
             (λ d.
-                ⊎-elim
-                (λ k.
-                    let apart : (d ≡ c) × (m % 16 ≡ n % 16) → ⊥ = λ both. ne (one-line r s c m n (ap (λ x. keeps r s x m) (sym (both .0)) ∙ k) kept (both .1)) in
-                    sym (owes-same r after s d m (other-frame d m apart)) ∙ none d)
-                (λ no-copy. and-left (keeps r s d m) _ no-copy)
-                (cases-bool (keeps r s d m)))
+            ⊎-elim
+            (λ k.
+            let apart : (d ≡ c) × (m % 16 ≡ n % 16) → ⊥ = λ both. ne (one-line r s c m n (ap (λ x. keeps r s x m) (sym (both .0)) ∙ k) kept (both .1)) in
+            sym (owes-same r after s d m (other-frame d m apart)) ∙ none d)
+            (λ no-copy. and-left (keeps r s d m) _ no-copy)
+            (cases-bool (keeps r s d m)))
             (bus m quiet)
             ∙ sym (changed-other T g w m ne)
 

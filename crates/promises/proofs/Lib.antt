@@ -1,3 +1,4 @@
+pub mod Coherent
 pub mod Contents
 pub mod Copies
 pub mod Entries
@@ -6,6 +7,9 @@ pub mod Frames
 pub mod InPlace
 pub mod OnBus
 pub mod OnEvict
+pub mod OnIssue
+pub mod OnSettle
+pub mod OnSnoop
 pub mod Open
 pub mod Putting
 pub mod Settling

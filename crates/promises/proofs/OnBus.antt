@@ -55,8 +55,8 @@ module _ (r : Rules) (m : Tagged-memory) (s : State) (was : Sound r m s) where
   grant-sound c a t step =
       step-sound r m s t _ (grant c) (first-reason (grant-reasons s c)) _ a (step .0) (step .1) was (λ e. refl)
       (λ none.
-          let clear = cleared (grant-reasons s c) none in
-          granted-sound c _ refl (not-false _ (clear .1 .1 .0)) (omega (arith, leb-false (s .setup .cores) c (clear .0), was .few-cores)) (not-false _ (clear .1 .0)))
+      let clear = cleared (grant-reasons s c) none in
+      granted-sound c _ refl (not-false _ (clear .1 .1 .0)) (omega (arith, leb-false (s .setup .cores) c (clear .0), was .few-cores)) (not-false _ (clear .1 .0)))
 
   -- GIVE-BACK
   granted-quiet : (b : Bus) (k : ℕ) → bus-at b to-snoop k ≡ true → (n : ℕ) → claiming b n ≡ false
@@ -68,15 +68,15 @@ module _ (r : Rules) (m : Tagged-memory) (s : State) (was : Sound r m s) where
   give-back-sound slip a t step =
       step-sound r m s t _ (give-back slip) (first-reason (slip-reasons s slip to-snoop)) _ a (step .0) (step .1) was (λ e. refl)
       (λ none.
-          let mine = not-false (of-tenure s slip to-snoop) (cleared (slip-reasons s slip to-snoop) none .0) in
-          let q = and-parts (eqb (slip .board) (s .setup .board)) _ (and-parts (same-stage (slip .stage) to-snoop) _ mine .1) in
-          record {
-            few-cores = was .few-cores;
-            copies = same-frames r (m .word) s (with-bus s free) (λ d i. refl) (λ n. refl) (λ n e. granted-quiet (s .bus) (slip .number) (q .1) n) (was .copies);
-            bus = tt;
-            notes = was .notes;
-            tenure = tt;
-          })
+      let mine = not-false (of-tenure s slip to-snoop) (cleared (slip-reasons s slip to-snoop) none .0) in
+      let q = and-parts (eqb (slip .board) (s .setup .board)) _ (and-parts (same-stage (slip .stage) to-snoop) _ mine .1) in
+      record {
+        few-cores = was .few-cores;
+        copies = same-frames r (m .word) s (with-bus s free) (λ d i. refl) (λ n. refl) (λ n e. granted-quiet (s .bus) (slip .number) (q .1) n) (was .copies);
+        bus = tt;
+        notes = was .notes;
+        tenure = tt;
+      })
 
   -- WITHDRAW
   list-kept : (t : Tenure) (k : ℕ) → numbered k (t .entry) ≡ false → Waits-in s t → Waits-in (withdrawn-state s k) t
@@ -98,18 +98,18 @@ module _ (r : Rules) (m : Tagged-memory) (s : State) (was : Sound r m s) where
   withdraw-sound k a t step =
       step-sound r m s t (withdrawn-state s k) (withdraw k) (first-reason (withdraw-reasons s k)) _ a (step .0) (step .1) was (λ e. refl)
       (λ none.
-          let clear = cleared (withdraw-reasons s k) none in
-          record {
-            few-cores = was .few-cores;
-            copies = same-frames r (m .word) s (withdrawn-state s k) (λ d i. refl) (λ n. refl) (λ n e. e) (was .copies);
-            bus = bus-kept r (m .word) s (withdrawn-state s k) (λ d i. refl) (s .bus) (was .bus);
-            notes = λ c.
-                ⊎-elim
-                (λ same. subst (Every-entry (Noted m (s .next) c)) (sym (ap (updated (s .waiting) (holder s k) (without k (s .waiting (holder s k)))) same ∙ updated-same (s .waiting) (holder s k) _)) (every-without (Noted m (s .next) c) k (s .waiting (holder s k)) (subst (λ d. Every-entry (Noted m (s .next) c) (s .waiting d)) same (was .notes c))))
-                (λ ne. subst (Every-entry (Noted m (s .next) c)) (sym (updated-other (s .waiting) (holder s k) c _ ne)) (was .notes c))
-                (cases-eq c (holder s k));
-            tenure = other-number (s .bus) k (clear .1 .0) (was .tenure);
-          })
+      let clear = cleared (withdraw-reasons s k) none in
+      record {
+        few-cores = was .few-cores;
+        copies = same-frames r (m .word) s (withdrawn-state s k) (λ d i. refl) (λ n. refl) (λ n e. e) (was .copies);
+        bus = bus-kept r (m .word) s (withdrawn-state s k) (λ d i. refl) (s .bus) (was .bus);
+        notes = λ c.
+            ⊎-elim
+            (λ same. subst (Every-entry (Noted m (s .next) c)) (sym (ap (updated (s .waiting) (holder s k) (without k (s .waiting (holder s k)))) same ∙ updated-same (s .waiting) (holder s k) _)) (every-without (Noted m (s .next) c) k (s .waiting (holder s k)) (subst (λ d. Every-entry (Noted m (s .next) c) (s .waiting d)) same (was .notes c))))
+            (λ ne. subst (Every-entry (Noted m (s .next) c)) (sym (updated-other (s .waiting) (holder s k) c _ ne)) (was .notes c))
+            (cases-eq c (holder s k));
+        tenure = other-number (s .bus) k (clear .1 .0) (was .tenure);
+      })
 
   -- LOOK, SAVE, TALLY change nothing
   pub look-sound : (w : ℕ) (a : Or-refused Word) (t : State) → Step r s (look w a) t → Sound r (feed m (look w a)) t

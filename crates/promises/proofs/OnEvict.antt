@@ -52,15 +52,15 @@ module _ (r : Rules) (law : Lawful r) (m : Tagged-memory) (s : State) (was : Sou
   evict-sound c w a t step =
       step-sound r m s t (evicted-state r s c w) (evict c w) (first-reason (evict-reasons s r c w)) _ a (step .0) (step .1) was (λ e. refl)
       (λ none.
-          let clear = cleared (evict-reasons s r c w) none in
-          let kept = not-false (keeps r s c (line-of w)) (clear .1 .1 .0) in
-          record {
-            few-cores = was .few-cores;
-            copies = evict-copies r law (m .word) s c w (was .copies) kept;
-            bus = evict-bus c w kept (s .bus) (clear .1 .1 .1 .0) (was .bus);
-            notes = was .notes;
-            tenure = tenure-kept c w (s .bus) (was .tenure);
-          })
+      let clear = cleared (evict-reasons s r c w) none in
+      let kept = not-false (keeps r s c (line-of w)) (clear .1 .1 .0) in
+      record {
+        few-cores = was .few-cores;
+        copies = evict-copies r law (m .word) s c w (was .copies) kept;
+        bus = evict-bus c w kept (s .bus) (clear .1 .1 .1 .0) (was .bus);
+        notes = was .notes;
+        tenure = tenure-kept c w (s .bus) (was .tenure);
+      })
 
   drain-free : (b : Bus) → is-free b ≡ true → Bus-true r (m .word) (drained-state r s) b × Tenure-waits (drained-state r s) b
   drain-free free e = (tt, tt)
@@ -71,11 +71,11 @@ module _ (r : Rules) (law : Lawful r) (m : Tagged-memory) (s : State) (was : Sou
   drain-sound a t step =
       step-sound r m s t (drained-state r s) drain (first-reason (drain-reasons s)) _ a (step .0) (step .1) was (λ e. refl)
       (λ none.
-          let quiet = not-false (is-free (s .bus)) (cleared (drain-reasons s) none .0) in
-          record {
-            few-cores = was .few-cores;
-            copies = drain-copies r law (m .word) s (was .copies) quiet;
-            bus = drain-free (s .bus) quiet .0;
-            notes = was .notes;
-            tenure = drain-free (s .bus) quiet .1;
-          })
+      let quiet = not-false (is-free (s .bus)) (cleared (drain-reasons s) none .0) in
+      record {
+        few-cores = was .few-cores;
+        copies = drain-copies r law (m .word) s (was .copies) quiet;
+        bus = drain-free (s .bus) quiet .0;
+        notes = was .notes;
+        tenure = drain-free (s .bus) quiet .1;
+      })

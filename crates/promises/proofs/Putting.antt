@@ -50,12 +50,12 @@ module _ (r : Rules) (T T′ : ℕ → Word) (s : State) (c n code : ℕ) (conte
       ⊎-elim
       (λ p. ap (λ (f : Frame). f .content) (p .2) ∙ put .true-content ∙ ap (line-by-words T′) (sym (new-line d m (p .2) k)))
       (λ p.
-          let old = kept-before d m (p .1) k in
-          ap (λ (f : Frame). f .content) (p .1) ∙ was .true-copies d m old
-          ∙ ⊎-elim
-            (λ e. ap (line-by-words T) e ∙ sym (put .shared-line d (λ same. p .0 (same, ap (λ x. x % 16) e)) (ap (keeps r s d) (sym e) ∙ old)) ∙ ap (line-by-words T′) (sym e))
-            (λ ne. sym (put .other-lines m ne))
-            (cases-eq m n))
+      let old = kept-before d m (p .1) k in
+      ap (λ (f : Frame). f .content) (p .1) ∙ was .true-copies d m old
+      ∙ ⊎-elim
+      (λ e. ap (line-by-words T) e ∙ sym (put .shared-line d (λ same. p .0 (same, ap (λ x. x % 16) e)) (ap (keeps r s d) (sym e) ∙ old)) ∙ ap (line-by-words T′) (sym e))
+      (λ ne. sym (put .other-lines m ne))
+      (cases-eq m n))
       (put-cases d m)
 
   put-alone : Writers-are-alone r after
@@ -63,18 +63,18 @@ module _ (r : Rules) (T T′ : ℕ → Word) (s : State) (c n code : ℕ) (conte
       let kept = and-parts (keeps r after d m) _ own in
       ⊎-elim
       (λ p.
-          let line = new-line d m (p .2) (kept .0) in
-          ⊎-elim (λ q. q .0 ∙ sym (p .0))
-          (λ q. absurd (put .only (sym (ap (λ (f : Frame). r .sole (f .code)) (p .2)) ∙ kept .1) e (λ same. q .0 (same, ap (λ x. x % 16) line)) (ap (keeps r s e) (sym line) ∙ kept-before e m (q .1) k)))
-          (put-cases e m))
+      let line = new-line d m (p .2) (kept .0) in
+      ⊎-elim (λ q. q .0 ∙ sym (p .0))
+      (λ q. absurd (put .only (sym (ap (λ (f : Frame). r .sole (f .code)) (p .2)) ∙ kept .1) e (λ same. q .0 (same, ap (λ x. x % 16) line)) (ap (keeps r s e) (sym line) ∙ kept-before e m (q .1) k)))
+      (put-cases e m))
       (λ p.
-          let owned = sym (owns-same r after s d m (p .1)) ∙ own in
-          ⊎-elim
-          (λ q.
-              let line = new-line e m (q .2) k in
-              absurd (put .no-owner d (λ same. p .0 (same, ap (λ x. x % 16) line)) (ap (owns r s d) (sym line) ∙ owned)))
-          (λ q. was .alone d e m owned (kept-before e m (q .1) k))
-          (put-cases e m))
+      let owned = sym (owns-same r after s d m (p .1)) ∙ own in
+      ⊎-elim
+      (λ q.
+      let line = new-line e m (q .2) k in
+      absurd (put .no-owner d (λ same. p .0 (same, ap (λ x. x % 16) line)) (ap (owns r s d) (sym line) ∙ owned)))
+      (λ q. was .alone d e m owned (kept-before e m (q .1) k))
+      (put-cases e m))
       (put-cases d m)
 
   pub put-copies : Copies r T′ after

@@ -70,22 +70,22 @@ module _ (r : Rules) (law : Lawful r) (T : ℕ → Word) (s : State) (t : Tenure
   out-memory m own-not others quiet =
       ⊎-elim
       (λ e.
-          let p = and-parts (not (eqb (out .line) n)) _ e in
-          let q = and-parts (r .kept (out .code)) _ (p .1) in
-          let kept = out-kept (q .0) in
-          ap (λ (f : ℕ → Content). f m) (cond-true _ _ (s .memory) e)
-          ∙ ⊎-elim
-            (λ same.
-                ap (updated (s .memory) (out .line) (out .content)) same
-                ∙ updated-same (s .memory) (out .line) (out .content)
-                ∙ sym (ap (λ j. s .frame (t .core) j .content) (was .placed (t .core) (n % 16) (q .0)))
-                ∙ was .true-copies (t .core) (out .line) kept
-                ∙ ap (line-by-words T) (sym same))
-            (λ ne. updated-other (s .memory) (out .line) m (out .content) ne ∙ was .true-memory m (premise (λ k. ne (sym (held k)))) quiet)
-            (cases-eq m (out .line)))
+      let p = and-parts (not (eqb (out .line) n)) _ e in
+      let q = and-parts (r .kept (out .code)) _ (p .1) in
+      let kept = out-kept (q .0) in
+      ap (λ (f : ℕ → Content). f m) (cond-true _ _ (s .memory) e)
+      ∙ ⊎-elim
+      (λ same.
+      ap (updated (s .memory) (out .line) (out .content)) same
+      ∙ updated-same (s .memory) (out .line) (out .content)
+      ∙ sym (ap (λ j. s .frame (t .core) j .content) (was .placed (t .core) (n % 16) (q .0)))
+      ∙ was .true-copies (t .core) (out .line) kept
+      ∙ ap (line-by-words T) (sym same))
+      (λ ne. updated-other (s .memory) (out .line) m (out .content) ne ∙ was .true-memory m (premise (λ k. ne (sym (held k)))) quiet)
+      (cases-eq m (out .line)))
       (λ e.
-          ap (λ (f : ℕ → Content). f m) (cond-false _ _ (s .memory) e)
-          ∙ was .true-memory m (premise-by e) quiet)
+      ap (λ (f : ℕ → Content). f m) (cond-false _ _ (s .memory) e)
+      ∙ was .true-memory m (premise-by e) quiet)
       (cases-bool (victim-owes r s t))
     where
       -- at this frame the own core keeps no line but the frame's
@@ -96,7 +96,7 @@ module _ (r : Rules) (law : Lawful r) (T : ℕ → Word) (s : State) (t : Tenure
       premise never d =
           ⊎-elim
           (λ same.
-              ⊎-elim (λ place. ap (λ x. owes r s x m) same ∙ not-kept-not-owing r s (t .core) m (λ k. never (place, k))) (λ apart. others d (λ both. apart (both .1))) (cases-eq (m % 16) (n % 16)))
+          ⊎-elim (λ place. ap (λ x. owes r s x m) same ∙ not-kept-not-owing r s (t .core) m (λ k. never (place, k))) (λ apart. others d (λ both. apart (both .1))) (cases-eq (m % 16) (n % 16)))
           (λ ne. others d (λ both. ne (both .0)))
           (cases-eq d (t .core))
 
@@ -104,27 +104,27 @@ module _ (r : Rules) (law : Lawful r) (T : ℕ → Word) (s : State) (t : Tenure
       premise-by e d =
           ⊎-elim
           (λ same.
-              ⊎-elim
-              (λ place.
-                  ap (λ x. owes r s x m) same
-                  ∙ ⊎-elim
-                    (λ k.
-                        ⊎-elim (λ is. absurd (own-not is (ap (keeps r s (t .core)) (sym is) ∙ k)))
-                        (λ ne.
-                            let line = held (place, k) in
-                            let kept : r .kept (out .code) ≡ true = sym (ap (λ j. r .kept (s .frame (t .core) j .code)) place) ∙ kept-of r s (t .core) m k .code in
-                            let paid : r .owing (out .code) ≡ false =
-                                ⊎-elim
-                                (λ w. absurd (both-ways (victim-owes r s t) e (and-from (not (eqb (out .line) n)) _ (not-from-false _ (ne-eqb _ _ (λ z. ne (sym line ∙ z)))) (and-from (r .kept (out .code)) _ kept w))))
-                                (λ w. w)
-                                (cases-bool (r .owing (out .code)))
-                            in
-                            and-right (keeps r s (t .core) m) _ (ap (λ j. r .owing (s .frame (t .core) j .code)) place ∙ paid))
-                        (cases-eq m n))
-                    (λ no-copy. and-left (keeps r s (t .core) m) _ no-copy)
-                    (cases-bool (keeps r s (t .core) m)))
-              (λ apart. others d (λ both. apart (both .1)))
-              (cases-eq (m % 16) (n % 16)))
+          ⊎-elim
+          (λ place.
+          ap (λ x. owes r s x m) same
+          ∙ ⊎-elim
+          (λ k.
+          ⊎-elim (λ is. absurd (own-not is (ap (keeps r s (t .core)) (sym is) ∙ k)))
+          (λ ne.
+          let line = held (place, k) in
+          let kept : r .kept (out .code) ≡ true = sym (ap (λ j. r .kept (s .frame (t .core) j .code)) place) ∙ kept-of r s (t .core) m k .code in
+          let paid : r .owing (out .code) ≡ false =
+          ⊎-elim
+          (λ w. absurd (both-ways (victim-owes r s t) e (and-from (not (eqb (out .line) n)) _ (not-from-false _ (ne-eqb _ _ (λ z. ne (sym line ∙ z)))) (and-from (r .kept (out .code)) _ kept w))))
+          (λ w. w)
+          (cases-bool (r .owing (out .code)))
+          in
+          and-right (keeps r s (t .core) m) _ (ap (λ j. r .owing (s .frame (t .core) j .code)) place ∙ paid))
+          (cases-eq m n))
+          (λ no-copy. and-left (keeps r s (t .core) m) _ no-copy)
+          (cases-bool (keeps r s (t .core) m)))
+          (λ apart. others d (λ both. apart (both .1)))
+          (cases-eq (m % 16) (n % 16)))
           (λ ne. others d (λ both. ne (both .0)))
           (cases-eq d (t .core))
 
@@ -200,7 +200,7 @@ module _ (r : Rules) (law : Lawful r) (T : ℕ → Word) (s : State) (t : Tenure
               ⊎-elim
               (λ e. absurd (both-ways _ (none (t .core)) (ap (owes r fetched-state (t .core)) e ∙ claim-owes r law fetched-state (t .core) n fetched-content core (fetched-frame ∙ ap (λ k. record { code = k; line = n; content = fetched-content }) (cond-true _ _ _ c)))))
               (λ ne.
-                  out-memory m (λ e k. ne e) (others-paid m none) (ap (λ b. claiming b m) bus ∙ ne-eqb n m (λ e. ne (sym e)))
-                  ∙ sym (changed-other T serve (t .entry .word) m ne))
+              out-memory m (λ e k. ne e) (others-paid m none) (ap (λ b. claiming b m) bus ∙ ne-eqb n m (λ e. ne (sym e)))
+              ∙ sym (changed-other T serve (t .entry .word) m ne))
               (cases-eq m n);
         }

@@ -42,15 +42,15 @@ module _ (r : Rules) (law : Lawful r) (T : ℕ → Word) (s : State) (t : Tenure
   heard-or-not d m =
       ⊎-elim
       (λ e.
-          let p = and-parts (fetches r s t) _ e in
-          let q = and-parts (eqb (m % 16) (n % 16)) _ (p .1) in
-          let o = and-parts (not (eqb d (t .core))) _ (q .1) in
-          inl (record { fetched = p .0; place = eqb-true _ _ (q .0); other = λ same. both-ways (eqb d (t .core)) (not-true _ (o .0)) (eq-eqb _ _ same); kept = o .1; frame = cond-true _ _ _ e }))
+      let p = and-parts (fetches r s t) _ e in
+      let q = and-parts (eqb (m % 16) (n % 16)) _ (p .1) in
+      let o = and-parts (not (eqb d (t .core))) _ (q .1) in
+      inl (record { fetched = p .0; place = eqb-true _ _ (q .0); other = λ same. both-ways (eqb d (t .core)) (not-true _ (o .0)) (eq-eqb _ _ same); kept = o .1; frame = cond-true _ _ _ e }))
       (λ e.
-          inr (record {
-            frame = cond-false _ _ _ e;
-            why = λ f place other kept. both-ways _ e (and-from (fetches r s t) _ f (and-from (eqb (m % 16) (n % 16)) _ (eq-eqb _ _ place) (and-from (not (eqb d (t .core))) _ (not-from-false _ (ne-eqb _ _ other)) kept)));
-          }))
+      inr (record {
+        frame = cond-false _ _ _ e;
+        why = λ f place other kept. both-ways _ e (and-from (fetches r s t) _ f (and-from (eqb (m % 16) (n % 16)) _ (eq-eqb _ _ place) (and-from (not (eqb d (t .core))) _ (not-from-false _ (ne-eqb _ _ other)) kept)));
+      }))
       (cases-bool (fetches r s t && (eqb (m % 16) (n % 16) && others-keep r s (t .core) n d)))
 
   -- a frame that heard holds line n, so what it keeps afterwards is line n
@@ -77,10 +77,10 @@ module _ (r : Rules) (law : Lawful r) (T : ℕ → Word) (s : State) (t : Tenure
     sole = λ d m own.
         ⊎-elim
         (λ h.
-            let p = and-parts (keeps r after d m) _ own in
-            ⊎-elim (λ c. absurd (heard-claim d m h c (p .0)))
-            (λ c. absurd (both-ways (r .sole (r .after-read (copy s d m .code))) (law .read-not-sole _ (was .codes d (m % 16))) (sym (ap (r .sole) (read-code d m h c)) ∙ p .1)))
-            (cases-bool (claims (t .entry .operation))))
+        let p = and-parts (keeps r after d m) _ own in
+        ⊎-elim (λ c. absurd (heard-claim d m h c (p .0)))
+        (λ c. absurd (both-ways (r .sole (r .after-read (copy s d m .code))) (law .read-not-sole _ (was .codes d (m % 16))) (sym (ap (r .sole) (read-code d m h c)) ∙ p .1)))
+        (cases-bool (claims (t .entry .operation))))
         (λ u. sym (owns-same r after s d m (u .frame)) ∙ own)
         (heard-or-not d m);
   }
@@ -106,17 +106,17 @@ module _ (r : Rules) (law : Lawful r) (T : ℕ → Word) (s : State) (t : Tenure
   snoop-placed d i k =
       ⊎-elim
       (λ e.
-          let frame : after .frame d i ≡ moved r s t (s .frame d i) = cond-true _ _ _ e in
-          let code = sym (ap (λ (f : Frame). r .kept (f .code)) frame) ∙ k in
-          ap (λ (f : Frame). f .line % 16) frame
-          ∙ was .placed d i
-            (⊎-elim
-            (λ c. absurd (both-ways (r .kept (r .after-claim (s .frame d i .code))) (law .claim-not-kept _ (was .codes d i)) (sym (ap (r .kept) (cond-true _ _ _ c)) ∙ code)))
-            (λ c. law .read-kept _ (was .codes d i) (sym (ap (r .kept) (cond-false _ _ _ c)) ∙ code))
-            (cases-bool (claims (t .entry .operation)))))
+      let frame : after .frame d i ≡ moved r s t (s .frame d i) = cond-true _ _ _ e in
+      let code = sym (ap (λ (f : Frame). r .kept (f .code)) frame) ∙ k in
+      ap (λ (f : Frame). f .line % 16) frame
+      ∙ was .placed d i
+      (⊎-elim
+      (λ c. absurd (both-ways (r .kept (r .after-claim (s .frame d i .code))) (law .claim-not-kept _ (was .codes d i)) (sym (ap (r .kept) (cond-true _ _ _ c)) ∙ code)))
+      (λ c. law .read-kept _ (was .codes d i) (sym (ap (r .kept) (cond-false _ _ _ c)) ∙ code))
+      (cases-bool (claims (t .entry .operation)))))
       (λ e.
-          let frame : after .frame d i ≡ s .frame d i = cond-false _ _ _ e in
-          ap (λ (f : Frame). f .line % 16) frame ∙ was .placed d i (sym (ap (λ (f : Frame). r .kept (f .code)) frame) ∙ k))
+      let frame : after .frame d i ≡ s .frame d i = cond-false _ _ _ e in
+      ap (λ (f : Frame). f .line % 16) frame ∙ was .placed d i (sym (ap (λ (f : Frame). r .kept (f .code)) frame) ∙ k))
       (cases-bool (fetches r s t && (eqb i (n % 16) && others-keep r s (t .core) n d)))
 
   -- kind 1 leaves a read whose own cache does not keep the line
@@ -141,23 +141,23 @@ module _ (r : Rules) (law : Lawful r) (T : ℕ → Word) (s : State) (t : Tenure
           let code = read-code d m h (told .0) in
           ⊎-elim
           (λ t-owes.
-              let after-owes : r .owing (r .after-read (copy s d m .code)) ≡ true =
-                  ⊎-elim
-                  (λ e. e)
-                  (λ e.
-                      absurd (both-ways (pays r s t d) (told .1)
-                      (and-from (others-keep r s (t .core) n d) _ (and-from (not (eqb d (t .core))) _ (not-from-false _ (ne-eqb _ _ (h .other))) (h .kept))
-                      (and-from _ _ (ap (λ j. r .owing (s .frame d j .code)) (sym (h .place)) ∙ t-owes) (not-from-false _ (ap (λ j. r .owing (r .after-read (s .frame d j .code))) (sym (h .place)) ∙ e))))))
-                  (cases-bool (r .owing (r .after-read (copy s d m .code))))
-              in
-              let kept-after : keeps r after d m ≡ true =
-                  keeps-by r after d m (record {
-                    core = kept-of r s d m k .core;
-                    line = ap (λ (f : Frame). f .line) (h .frame) ∙ kept-of r s d m k .line;
-                    code = ap (r .kept) code ∙ law .owing-kept _ (law .read-fits _ (was .codes d (m % 16))) after-owes;
-                  })
-              in
-              absurd (both-ways (owes r after d m) (none d) (and-from (keeps r after d m) _ kept-after (ap (r .owing) code ∙ after-owes))))
+          let after-owes : r .owing (r .after-read (copy s d m .code)) ≡ true =
+          ⊎-elim
+          (λ e. e)
+          (λ e.
+          absurd (both-ways (pays r s t d) (told .1)
+          (and-from (others-keep r s (t .core) n d) _ (and-from (not (eqb d (t .core))) _ (not-from-false _ (ne-eqb _ _ (h .other))) (h .kept))
+          (and-from _ _ (ap (λ j. r .owing (s .frame d j .code)) (sym (h .place)) ∙ t-owes) (not-from-false _ (ap (λ j. r .owing (r .after-read (s .frame d j .code))) (sym (h .place)) ∙ e))))))
+          (cases-bool (r .owing (r .after-read (copy s d m .code))))
+          in
+          let kept-after : keeps r after d m ≡ true =
+          keeps-by r after d m (record {
+            core = kept-of r s d m k .core;
+            line = ap (λ (f : Frame). f .line) (h .frame) ∙ kept-of r s d m k .line;
+            code = ap (r .kept) code ∙ law .owing-kept _ (law .read-fits _ (was .codes d (m % 16))) after-owes;
+          })
+          in
+          absurd (both-ways (owes r after d m) (none d) (and-from (keeps r after d m) _ kept-after (ap (r .owing) code ∙ after-owes))))
           (λ e. and-right (keeps r s d m) _ e)
           (cases-bool (r .owing (copy s d m .code)))
 
@@ -179,9 +179,9 @@ module _ (r : Rules) (law : Lawful r) (T : ℕ → Word) (s : State) (t : Tenure
       not-claim e f =
           ⊎-elim
           (λ c.
-              let p = and-parts (snoop-met r s t) _ f in
-              let found : snoop-found r s t ≡ claimed (supplied r s n (s .memory n)) = cond-true _ _ _ (p .0) ∙ cond-false _ _ _ (not-true _ (p .1)) ∙ cond-true _ _ _ c in
-              absurd (both-ways (claiming (after .bus) m) unclaimed (ap (λ x. claiming (snooped t x) m) found ∙ eq-eqb n m (sym e))))
+          let p = and-parts (snoop-met r s t) _ f in
+          let found : snoop-found r s t ≡ claimed (supplied r s n (s .memory n)) = cond-true _ _ _ (p .0) ∙ cond-false _ _ _ (not-true _ (p .1)) ∙ cond-true _ _ _ c in
+          absurd (both-ways (claiming (after .bus) m) unclaimed (ap (λ x. claiming (snooped t x) m) found ∙ eq-eqb n m (sym e))))
           (λ c. c)
           (cases-bool (claims (t .entry .operation)))
 
@@ -189,19 +189,19 @@ module _ (r : Rules) (law : Lawful r) (T : ℕ → Word) (s : State) (t : Tenure
       here e =
           ⊎-elim
           (λ yes-paid.
-              let low = lowest-passes (pays r s t) (and-parts _ _ (and-parts (fetches r s t) _ yes-paid .1) .1) in
-              let keeper = and-parts (not (eqb (lowest (pays r s t)) (t .core))) _ (and-parts (others-keep r s (t .core) n (lowest (pays r s t))) _ (low .0) .0) .1 in
-              ap (λ (f : ℕ → Content). f m) (written yes-paid) ∙ ap (updated (s .memory) n (copy s (lowest (pays r s t)) n .content)) e ∙ updated-same (s .memory) n _ ∙ was .true-copies _ n keeper ∙ ap (line-by-words T) (sym e))
+          let low = lowest-passes (pays r s t) (and-parts _ _ (and-parts (fetches r s t) _ yes-paid .1) .1) in
+          let keeper = and-parts (not (eqb (lowest (pays r s t)) (t .core))) _ (and-parts (others-keep r s (t .core) n (lowest (pays r s t))) _ (low .0) .0) .1 in
+          ap (λ (f : ℕ → Content). f m) (written yes-paid) ∙ ap (updated (s .memory) n (copy s (lowest (pays r s t)) n .content)) e ∙ updated-same (s .memory) n _ ∙ was .true-copies _ n keeper ∙ ap (line-by-words T) (sym e))
           (λ unpaid.
-              ap (λ (f : ℕ → Content). f m) (unwritten unpaid)
-              ∙ was .true-memory m
-                (λ d.
-                    owed-stays d m none
-                    (λ f same.
-                        let c = not-claim e f in
-                        let nobody : any-core (pays r s t) ≡ false = ⊎-elim (λ z. absurd (both-ways _ z f)) (λ z. ⊎-elim (λ y. absurd (both-ways _ y (not-from-false _ c))) (λ y. y) (and-cases _ _ z)) (and-cases (fetches r s t) _ unpaid) in
-                        (c, ⊎-elim (λ p. none-passes (pays r s t) nobody d (kept-of r s d n (and-parts (not (eqb d (t .core))) _ (and-parts (others-keep r s (t .core) n d) _ p .0) .1) .core)) (λ p. p) (cases-bool (pays r s t d)))))
-                (quiet m))
+          ap (λ (f : ℕ → Content). f m) (unwritten unpaid)
+          ∙ was .true-memory m
+          (λ d.
+          owed-stays d m none
+          (λ f same.
+          let c = not-claim e f in
+          let nobody : any-core (pays r s t) ≡ false = ⊎-elim (λ z. absurd (both-ways _ z f)) (λ z. ⊎-elim (λ y. absurd (both-ways _ y (not-from-false _ c))) (λ y. y) (and-cases _ _ z)) (and-cases (fetches r s t) _ unpaid) in
+          (c, ⊎-elim (λ p. none-passes (pays r s t) nobody d (kept-of r s d n (and-parts (not (eqb d (t .core))) _ (and-parts (others-keep r s (t .core) n d) _ p .0) .1) .core)) (λ p. p) (cases-bool (pays r s t d)))))
+          (quiet m))
           (cases-bool paid)
 
       elsewhere : (m ≡ n → ⊥) → after .memory m ≡ line-by-words T m

@@ -21,7 +21,7 @@ use Rattle.promises.specs.OneMemory.{Note, Tagged-memory, line-by-words, feed}
 use Rattle.promises.specs.Promises.{Every-entry, Writers-are-alone}
 use Rattle.promises.proofs.Frames.{keeps-same, same-state-as}
 use Rattle.promises.proofs.Copies.{claiming, Copies, owes-same, owns-same}
-use Rattle.promises.proofs.Entries.{Present}
+use Rattle.promises.proofs.Entries.{Present, Same-request, every-weaker, every-present}
 use Rattle.promises.proofs.Tenures.{Bus-true}
 
 -- the note under which a waiting request was issued by core c
@@ -49,6 +49,26 @@ pub record Sound (r : Rules) (m : Tagged-memory) (s : State) : Type 0 where
   pub bus : Bus-true r (m .word) s (s .bus)
   pub notes : (c : ℕ) → Every-entry (Noted m (s .next) c) (s .waiting c)
   pub tenure : Tenure-waits s (s .bus)
+
+-- a memory with the same words and notes serves as well
+pub same-memory : (r : Rules) (m n : Tagged-memory) (s : State) → n .word ≡ m .word → n .noted ≡ m .noted → Sound r m s → Sound r n s
+same-memory r m n s word noted was = record {
+  few-cores = was .few-cores;
+  copies = subst (λ T. Copies r T s) (sym word) (was .copies);
+  bus = subst (λ T. Bus-true r T s (s .bus)) (sym word) (was .bus);
+  notes = λ c. every-weaker (Noted m (s .next) c) (Noted n (s .next) c) (λ e h. record { note = ap (λ f. f (e .number)) noted ∙ h .note; below = h .below }) (s .waiting c) (was .notes c);
+  tenure = was .tenure;
+}
+
+-- the request that has the bus was noted as it is
+pub tenure-noted : (r : Rules) (m : Tagged-memory) (s : State) (t : Tenure) → Sound r m s → Waits-in s t → Noted m (s .next) (t .core) (t .entry)
+tenure-noted r m s t was here =
+    every-present (Noted m (s .next) (t .core)) (t .entry) (s .waiting (t .core))
+    (λ e same h. record {
+      note = ap (m .noted) (same .number) ∙ h .note ∙ ap Some (λ i. record { core = t .core; operation = sym (same .operation) i; word = sym (same .word) i; value = sym (same .value) i });
+      below = omega (arith, same .number, h .below);
+    })
+    (was .notes (t .core)) (here .present)
 
 -- the same frames and memory, and no line more that is not being claimed
 module _ (r : Rules) (T : ℕ → Word) (s t : State) (frames : (d i : ℕ) → t .frame d i ≡ s .frame d i) (memory : (n : ℕ) → t .memory n ≡ s .memory n) (bus : (n : ℕ) → claiming (t .bus) n ≡ false → claiming (s .bus) n ≡ false) where
@@ -79,3 +99,8 @@ cleared (p ∷ ps) e =
 pub step-sound : {A : Type 0} (r : Rules) (m : Tagged-memory) (s t after : State) (call : Or-refused A → Call) (q : Option Refusal) (x : A) (a : Or-refused A) → a ≡ reply-unless q x → Agree t (after-unless q s after) → Sound r m s → ((e : Refusal) → feed m (call (reply-unless (Some e) x)) ≡ m) → (q ≡ None → Sound r (feed m (call (reply-unless None x))) after) → Sound r (feed m (call a)) t
 step-sound r m s t after call None x a is agree was refused accepted = subst (λ b. Sound r (feed m (call b)) t) (sym is) (subst (Sound r (feed m (call (reply-unless None x)))) (sym (same-state-as agree)) (accepted refl))
 step-sound r m s t after call (Some e) x a is agree was refused accepted = subst (λ b. Sound r (feed m (call b)) t) (sym is) (subst (λ n. Sound r n t) (sym (refused e)) (subst (Sound r m) (sym (same-state-as agree)) was))
+
+-- a step that is always refused
+pub refused-sound : {A : Type 0} (r : Rules) (m : Tagged-memory) (s t : State) (call : Or-refused A → Call) (q : Option Refusal) (x : A) (a : Or-refused A) → a ≡ reply-unless q x → Agree t s → Sound r m s → ((e : Refusal) → feed m (call (reply-unless (Some e) x)) ≡ m) → (q ≡ None → ⊥) → Sound r (feed m (call a)) t
+refused-sound r m s t call None x a is agree was refused never = absurd (never refl)
+refused-sound r m s t call (Some e) x a is agree was refused never = step-sound r m s t s call (Some e) x a is agree was refused (λ none. absurd (never none))

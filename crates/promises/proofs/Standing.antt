@@ -29,16 +29,16 @@ module _ (r : Rules) (T : ℕ → Word) (s : State) (was : Copies r T s) where
   supplied-true n x otherwise =
       ⊎-elim
       (λ t.
-          let low = lowest-passes (λ c. owes r s c n) t in
-          from (lowest (λ c. owes r s c n)) (cond-true _ _ _ t) (and-parts (keeps r s (lowest (λ c. owes r s c n)) n) _ (low .0) .0))
+      let low = lowest-passes (λ c. owes r s c n) t in
+      from (lowest (λ c. owes r s c n)) (cond-true _ _ _ t) (and-parts (keeps r s (lowest (λ c. owes r s c n)) n) _ (low .0) .0))
       (λ f.
-          ⊎-elim
-          (λ t. let low = lowest-passes (λ c. keeps r s c n) t in from (lowest (λ c. keeps r s c n)) (cond-false _ _ _ f) (low .0))
-          (λ none.
-              let is : supplier r s n ≡ 8 = cond-false _ _ _ f ∙ lowest-none (λ c. keeps r s c n) none in
-              cond-false (ltb (supplier r s n) 8) _ x (le-ltb (supplier r s n) 8 (omega arith))
-              ∙ otherwise (λ c. ⊎-elim (λ k. none-passes (λ c. keeps r s c n) none c (kept-of r s c n k .core)) (λ e. e) (cases-bool (keeps r s c n))))
-          (cases-bool (any-core (λ c. keeps r s c n))))
+      ⊎-elim
+      (λ t. let low = lowest-passes (λ c. keeps r s c n) t in from (lowest (λ c. keeps r s c n)) (cond-false _ _ _ f) (low .0))
+      (λ none.
+      let is : supplier r s n ≡ 8 = cond-false _ _ _ f ∙ lowest-none (λ c. keeps r s c n) none in
+      cond-false (ltb (supplier r s n) 8) _ x (le-ltb (supplier r s n) 8 (omega arith))
+      ∙ otherwise (λ c. ⊎-elim (λ k. none-passes (λ c. keeps r s c n) none c (kept-of r s c n k .core)) (λ e. e) (cases-bool (keeps r s c n))))
+      (cases-bool (any-core (λ c. keeps r s c n))))
       (cases-bool (any-core (λ c. owes r s c n)))
     where
       from : (k : ℕ) → supplier r s n ≡ k → keeps r s k n ≡ true → supplied r s n x ≡ line-by-words T n

@@ -97,27 +97,25 @@ module _ (r : Rules) (T T′ : ℕ → Word) (s s′ : State) (t : Tenure) (like
 
   pub found-like : (f : Found) → Found-true r T s t f → Found-true r T′ s′ t f
   found-like own-copy h = (record { kept = like .kept (t .core) ∙ h .0 .kept; sole = λ c. ap (r .sole) (like .code (t .core) (h .0 .kept)) ∙ h .0 .sole c }, still-met (h .1))
-  found-like (read-in shared f) h =
-      (
-        record {
-          line = h .0 .line ∙ sym line;
-          own = λ k. h .0 .own (sym (like .kept (t .core)) ∙ k);
-          none-sole = λ d o. h .0 .none-sole d (owned d o);
-          unshared = λ e d k. h .0 .unshared e d (sym (like .kept d) ∙ k);
-          read = h .0 .read;
-        },
-        still-met (h .1),
-      )
-  found-like (claimed f) h =
-      (
-        record {
-          line = h .0 .line ∙ sym line;
-          others = λ d ne k. h .0 .others d ne (sym (like .kept d) ∙ k);
-          own = λ o. h .0 .own (owned (t .core) o);
-          claim = h .0 .claim;
-        },
-        still-met (h .1),
-      )
+  found-like (read-in shared f) h = (
+    record {
+      line = h .0 .line ∙ sym line;
+      own = λ k. h .0 .own (sym (like .kept (t .core)) ∙ k);
+      none-sole = λ d o. h .0 .none-sole d (owned d o);
+      unshared = λ e d k. h .0 .unshared e d (sym (like .kept d) ∙ k);
+      read = h .0 .read;
+    },
+    still-met (h .1),
+  )
+  found-like (claimed f) h = (
+    record {
+      line = h .0 .line ∙ sym line;
+      others = λ d ne k. h .0 .others d ne (sym (like .kept d) ∙ k);
+      own = λ o. h .0 .own (owned (t .core) o);
+      claim = h .0 .claim;
+    },
+    still-met (h .1),
+  )
   found-like (unmet o found) h = h
 
 -- SNOOP finds what is true
@@ -133,6 +131,10 @@ module _ (r : Rules) (law : Lawful r) (T : ℕ → Word) (s : State) (t : Tenure
 
   is-met : snoop-met r s t ≡ true → Met T t
   is-met e = sym (ap (λ (x : Word). met (t .entry .operation) (x .state)) word-stands) ∙ e
+
+  -- what the snoop finds unmet is unmet in the one tagged memory
+  pub snoop-not-met : snoop-met r s t ≡ false → met (t .entry .operation) (T (t .entry .word) .state) ≡ false
+  snoop-not-met e = sym (ap (λ (x : Word). met (t .entry .operation) (x .state)) word-stands) ∙ e
 
   -- nothing moves where nothing is fetched
   still : fetches r s t ≡ false → (d m : ℕ) → copy after d m ≡ copy s d m
@@ -190,14 +192,14 @@ module _ (r : Rules) (law : Lawful r) (T : ℕ → Word) (s : State) (t : Tenure
   snoop-finds =
       ⊎-elim
       (λ m.
-          ⊎-elim
-          (λ e. subst (Found-true r T after t) (sym (cond-true _ _ _ m ∙ cond-true _ _ _ e)) (hits e (and-right (snoop-met r s t) _ (not-from-true _ e)), is-met m))
-          (λ e.
-              let f = and-from (snoop-met r s t) _ m (not-from-false _ e) in
-              ⊎-elim
-              (λ c. subst (Found-true r T after t) (sym (cond-true _ _ _ m ∙ cond-false _ _ _ e ∙ cond-true _ _ _ c)) (takes f c, is-met m))
-              (λ c. subst (Found-true r T after t) (sym (cond-true _ _ _ m ∙ cond-false _ _ _ e ∙ cond-false _ _ _ c)) (reads f c, is-met m))
-              (cases-bool (claims (t .entry .operation))))
-          (cases-bool (own-suffices r s t)))
+      ⊎-elim
+      (λ e. subst (Found-true r T after t) (sym (cond-true _ _ _ m ∙ cond-true _ _ _ e)) (hits e (and-right (snoop-met r s t) _ (not-from-true _ e)), is-met m))
+      (λ e.
+      let f = and-from (snoop-met r s t) _ m (not-from-false _ e) in
+      ⊎-elim
+      (λ c. subst (Found-true r T after t) (sym (cond-true _ _ _ m ∙ cond-false _ _ _ e ∙ cond-true _ _ _ c)) (takes f c, is-met m))
+      (λ c. subst (Found-true r T after t) (sym (cond-true _ _ _ m ∙ cond-false _ _ _ e ∙ cond-false _ _ _ c)) (reads f c, is-met m))
+      (cases-bool (claims (t .entry .operation))))
+      (cases-bool (own-suffices r s t)))
       (λ m. subst (Found-true r T after t) (sym (cond-false _ _ _ m)) (unmet-undone (t .entry .operation) _ m))
       (cases-bool (snoop-met r s t))

@@ -38,7 +38,7 @@ abbrev pub note : Tagged-memory → ℕ → Note → Tagged-memory
 note m k x = record { word = m .word; noted = updated (m .noted) k (Some x); gave = m .gave; decided = m .decided }
 
 -- the memory serves request k
-abbrev serve-noted : Tagged-memory → ℕ → Option Note → Tagged-memory
+abbrev pub serve-noted : Tagged-memory → ℕ → Option Note → Tagged-memory
 serve-noted m k None = record { word = m .word; noted = m .noted; gave = m .gave; decided = k ∷ m .decided }
 serve-noted m k (Some x) = record {
   word = updated (m .word) (x .word) (rule (x .operation) (m .word (x .word)) (x .value) .word);
@@ -63,7 +63,7 @@ is-answer Discarded = true
 is-answer Trap = true
 is-answer Waits = false
 
-abbrev noted-gives-up : Option Note → Bool
+abbrev pub noted-gives-up : Option Note → Bool
 noted-gives-up None = false
 noted-gives-up (Some x) = gives-up (class-of (x .operation))
 

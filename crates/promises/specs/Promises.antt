@@ -34,6 +34,10 @@ Writers-are-alone r s = (c d n : ℕ) → owns r s c n ≡ true → keeps r s d 
 abbrev pub Copies-are-equal : Rules → State → Type 0
 Copies-are-equal r s = (c d n : ℕ) → keeps r s c n ≡ true → keeps r s d n ≡ true → copy s c n .content ≡ copy s d n .content
 
+pub record Coherent (r : Rules) (s : State) : Type 0 where
+  pub writers-are-alone : Writers-are-alone r s
+  pub copies-are-equal : Copies-are-equal r s
+
 -- ONE TAGGED MEMORY
 
 -- an answer holds exactly what the memory gave that request
@@ -223,3 +227,7 @@ pub record Promises (r : Rules) (o : Opening) (h : List Call) (s : State) : Type
 -- whatever calls led from an opening to a state, every promise holds
 abbrev pub Every-run-keeps-its-promises : Type 0
 Every-run-keeps-its-promises = (r : Rules) → Lawful r → (o : Opening) (h : List Call) (s : State) → Ran r o h s → Promises r o h s
+
+-- the first part of it, by itself
+abbrev pub Every-run-is-coherent : Type 0
+Every-run-is-coherent = (r : Rules) → Lawful r → (o : Opening) (h : List Call) (s : State) → Ran r o h s → Coherent r s

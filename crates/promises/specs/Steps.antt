@@ -131,7 +131,7 @@ module _ (r : Rules) (s : State) (c : ℕ) (o : Operation) (w v : ℕ) where
   issue-answer = cond answers-now (answer-served (s .next) issue-served (woken s (issue-served .notice) w)) (answer-undone (s .next) Waits Empty)
 
 module _ (r : Rules) (s : State) (c k w v : ℕ) where
-  abbrev issue-refusal : Option Refusal
+  abbrev pub issue-refusal : Option Refusal
   issue-refusal = first-reason (issue-reasons s (not (answers-now r s c (operation-coded k) w v)) c k w)
 
   abbrev pub issue-reply : Or-refused Answer
@@ -195,7 +195,7 @@ module _ (r : Rules) (s : State) (t : Tenure) where
   abbrev pub snoop-kind : ℕ
   snoop-kind = cond snoop-met (cond own-suffices 0 (cond (claims asked) 2 1)) 3
 
-  abbrev snoop-report : Snoop-report
+  abbrev pub snoop-report : Snoop-report
   snoop-report = record { kind = snoop-kind; keepers = core-bits (λ d. keeps r s d asked-line); met = snoop-met; supplier = cond fetches (supplier r s asked-line) 9 }
 
   -- another cache's copy after it heard of the read or the claim
@@ -218,12 +218,12 @@ module _ (r : Rules) (s : State) (t : Tenure) where
   }
 
 module _ (r : Rules) (s : State) (slip : Slip) where
-  abbrev snoop-on : Bus → Or-refused (Slip × Snoop-report)
+  abbrev pub snoop-on : Bus → Or-refused (Slip × Snoop-report)
   snoop-on free = reply-unless (first-reason (slip-reasons s slip to-snoop)) (record { board = s .setup .board; number = 0; stage = to-settle }, record { kind = 3; keepers = 0; met = false; supplier = 9 })
   snoop-on (granted t) = reply-unless (first-reason (slip-reasons s slip to-snoop)) (record { board = s .setup .board; number = t .entry .number; stage = to-settle }, snoop-report r s t)
   snoop-on (snooped t f) = reply-unless (first-reason (slip-reasons s slip to-snoop)) (record { board = s .setup .board; number = 0; stage = to-settle }, record { kind = 3; keepers = 0; met = false; supplier = 9 })
 
-  abbrev snoop-to : Bus → State
+  abbrev pub snoop-to : Bus → State
   snoop-to free = s
   snoop-to (granted t) = after-unless (first-reason (slip-reasons s slip to-snoop)) s (snoop-state r s t)
   snoop-to (snooped t f) = s
@@ -301,12 +301,12 @@ module _ (r : Rules) (s : State) where
   settle-state t (unmet o found) = unmet-state s t o
 
 module _ (r : Rules) (s : State) (slip : Slip) where
-  abbrev settle-on : Bus → Or-refused Answer
+  abbrev pub settle-on : Bus → Or-refused Answer
   settle-on free = reply-unless (first-reason (slip-reasons s slip to-settle)) (answer-undone 0 Waits Empty)
   settle-on (granted t) = reply-unless (first-reason (slip-reasons s slip to-settle)) (answer-undone 0 Waits Empty)
   settle-on (snooped t f) = reply-unless (first-reason (slip-reasons s slip to-settle)) (settle-answer r s t f)
 
-  abbrev settle-to : Bus → State
+  abbrev pub settle-to : Bus → State
   settle-to free = s
   settle-to (granted t) = s
   settle-to (snooped t f) = after-unless (first-reason (slip-reasons s slip to-settle)) s (settle-state r s t f)

@@ -1,5 +1,6 @@
 // What holds after every list of calls: mathematics over what each call does, for every lawful protocol and memory.
 ghost use Rattle.promises.specs.Example.{Example-is-a-run};
+ghost use Rattle.promises.specs.Promises.{Every-run-is-coherent};
 ghost use Rattle.promises.specs.Runs.{Steps-leave-nothing-open};
 
 // What each call does is fixed: with the same arguments on the same board it answers and leaves the same.
@@ -12,6 +13,14 @@ pub fn steps_leave_nothing_open() -> u8
 // There are runs: thirteen calls of two cores, written out with their answers, are one.
 pub fn example_is_a_run() -> u8
     ensures { λ _. ⌜ Example-is-a-run ⌝ }
+{
+    0
+}
+
+// For every lawful protocol and every memory: whatever calls a board has had, a copy that may be written is the only kept
+// copy of its line, and kept copies of a line are equal.
+pub fn runs_are_coherent() -> u8
+    ensures { λ _. ⌜ Every-run-is-coherent ⌝ }
 {
     0
 }
