@@ -37,6 +37,7 @@ module _ (r : Rules) (law : Lawful r) where
     bus = tt;
     notes = λ c. tt;
     tenure = tt;
+    sleepers = λ c. tt;
   }
 
   step : (m : Tagged-memory) (s t : State) (c : Call) → Sound r m s → Step r s c t → Sound r (feed m c) t

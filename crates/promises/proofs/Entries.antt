@@ -95,6 +95,10 @@ module _ (P Q : Entry → Type 0) where
   every-map g f [] h = tt
   every-map g f (e ∷ es) h = (f e (h .0), every-map g f es (h .1))
 
+  pub every-both : (es : List Entry) → Every-entry P es → Every-entry Q es → Every-entry (λ e. P e × Q e) es
+  every-both [] h k = tt
+  every-both (e ∷ es) h k = ((h .0, k .0), every-both es (h .1) (k .1))
+
 module _ (P : Entry → Type 0) where
   pub every-append : (es : List Entry) (e : Entry) → Every-entry P es → P e → Every-entry P (es ++ e ∷ [])
   every-append [] e h p = (p, tt)

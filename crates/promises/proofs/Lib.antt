@@ -13,6 +13,7 @@ pub mod OnSnoop
 pub mod Open
 pub mod Putting
 pub mod Settling
+pub mod Sleeping
 pub mod Snooping
 pub mod Sound
 pub mod Standing

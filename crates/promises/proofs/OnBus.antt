@@ -26,6 +26,7 @@ use Rattle.promises.proofs.Frames.{keeps-same, same-state-as}
 use Rattle.promises.proofs.Copies.{claiming, Copies}
 use Rattle.promises.proofs.Entries.{Present, ready-present, present-without, every-without}
 use Rattle.promises.proofs.Tenures.{Like, found-like, Bus-true}
+use Rattle.promises.proofs.Sleeping.{Sleeps-right}
 use Rattle.promises.proofs.Sound.{Noted, Waits-in, Tenure-waits, Sound, same-frames, cleared, step-sound}
 
 -- what was found stays true where all frames stay
@@ -49,6 +50,7 @@ module _ (r : Rules) (m : Tagged-memory) (s : State) (was : Sound r m s) where
     bus = tt;
     notes = was .notes;
     tenure = record { core = core; present = ready-present [] (s .waiting c) x e };
+    sleepers = was .sleepers;
   }
 
   pub grant-sound : (c : ℕ) (a : Or-refused Slip) (t : State) → Step r s (grant c a) t → Sound r (feed m (grant c a)) t
@@ -76,6 +78,7 @@ module _ (r : Rules) (m : Tagged-memory) (s : State) (was : Sound r m s) where
         bus = tt;
         notes = was .notes;
         tenure = tt;
+        sleepers = was .sleepers;
       })
 
   -- WITHDRAW
@@ -109,6 +112,11 @@ module _ (r : Rules) (m : Tagged-memory) (s : State) (was : Sound r m s) where
             (λ ne. subst (Every-entry (Noted m (s .next) c)) (sym (updated-other (s .waiting) (holder s k) c _ ne)) (was .notes c))
             (cases-eq c (holder s k));
         tenure = other-number (s .bus) k (clear .1 .0) (was .tenure);
+        sleepers = λ c.
+            ⊎-elim
+            (λ same. subst (Every-entry (Sleeps-right (m .word))) (sym (ap (updated (s .waiting) (holder s k) (without k (s .waiting (holder s k)))) same ∙ updated-same (s .waiting) (holder s k) _)) (every-without (Sleeps-right (m .word)) k (s .waiting (holder s k)) (was .sleepers (holder s k))))
+            (λ ne. subst (Every-entry (Sleeps-right (m .word))) (sym (updated-other (s .waiting) (holder s k) c _ ne)) (was .sleepers c))
+            (cases-eq c (holder s k));
       })
 
   -- LOOK, SAVE, TALLY change nothing

@@ -60,6 +60,7 @@ module _ (r : Rules) (law : Lawful r) (m : Tagged-memory) (s : State) (was : Sou
         bus = evict-bus c w kept (s .bus) (clear .1 .1 .1 .0) (was .bus);
         notes = was .notes;
         tenure = tenure-kept c w (s .bus) (was .tenure);
+        sleepers = was .sleepers;
       })
 
   drain-free : (b : Bus) → is-free b ≡ true → Bus-true r (m .word) (drained-state r s) b × Tenure-waits (drained-state r s) b
@@ -78,4 +79,5 @@ module _ (r : Rules) (law : Lawful r) (m : Tagged-memory) (s : State) (was : Sou
         bus = drain-free (s .bus) quiet .0;
         notes = was .notes;
         tenure = drain-free (s .bus) quiet .1;
+        sleepers = was .sleepers;
       })

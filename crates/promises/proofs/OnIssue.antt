@@ -42,6 +42,7 @@ use Rattle.promises.proofs.Settling.{unclaimed-word}
 use Rattle.promises.proofs.OnBus.{bus-kept}
 use Rattle.promises.proofs.OnSettle.{noted-wake}
 use Rattle.promises.proofs.OnSnoop.{unmet-word}
+use Rattle.promises.proofs.Sleeping.{Sleeps-right, woken-right, rule-tells}
 use Rattle.promises.proofs.Sound.{note-of, Noted, Waits-in, Tenure-waits, Sound, same-frames, cleared, step-sound}
 
 -- an operation that is unmet, or no claim, leaves the word
@@ -80,6 +81,13 @@ module _ (r : Rules) (law : Lawful r) (m : Tagged-memory) (s : State) (was : Sou
   later-tenure (granted t) h = later-present t h
   later-tenure (snooped t f) h = later-present t h
 
+  -- a request that goes to sleep at its issue is unmet
+  new-sleeper : (in-reach r s c o w v && not (own-met r s c o w v)) ≡ true → met o (T w .state) ≡ false
+  new-sleeper e =
+      let p = and-parts (in-reach r s c o w v) _ e in
+      let kept = and-parts (not (any-entry (on-word w) (s .waiting c))) _ (p .0) .1 in
+      sym (ap (λ f. met o (word-in f w .state)) (was .copies .true-copies c (line-of w) kept) ∙ ap (λ (x : Word). met o (x .state)) (line-word T w)) ∙ not-true _ (p .1)
+
   later-sound : Sound r noting (issue-later r s c o w v)
   later-sound = record {
     few-cores = was .few-cores;
@@ -94,6 +102,13 @@ module _ (r : Rules) (law : Lawful r) (m : Tagged-memory) (s : State) (was : Sou
         (λ ne. subst (Every-entry (Noted noting (s .next + 1) d)) (sym (updated-other (s .waiting) c d _ ne)) (every-weaker _ _ (old-note d) (s .waiting d) (was .notes d)))
         (cases-eq d c);
     tenure = later-tenure (s .bus) (was .tenure);
+    sleepers = λ d.
+        ⊎-elim
+        (λ same.
+            subst (Every-entry (Sleeps-right T)) (sym (ap (updated (s .waiting) c _) same ∙ updated-same (s .waiting) c _))
+            (every-append (Sleeps-right T) (s .waiting c) _ (was .sleepers c) new-sleeper))
+        (λ ne. subst (Every-entry (Sleeps-right T)) (sym (updated-other (s .waiting) c d _ ne)) (was .sleepers d))
+        (cases-eq d c);
   }
 
   -- NOW: the request is served at the own copy
@@ -227,6 +242,7 @@ module _ (r : Rules) (law : Lawful r) (m : Tagged-memory) (s : State) (was : Sou
       bus = subst (λ X. Bus-true r X after (s .bus)) (sym word) (now-bus (s .bus) (was .tenure) (was .bus));
       notes = λ d. every-map (Noted m (s .next) d) (Noted deciding (s .next + 1) d) _ (λ e h. noted-again d _ (noted-wake noting (s .next + 1) d _ _ e (old-note d e h))) (s .waiting d) (was .notes d);
       tenure = now-tenure (s .bus) (was .tenure);
+      sleepers = λ d. subst (λ X. Every-entry (Sleeps-right X) (after .waiting d)) (sym word) (every-map (Sleeps-right T) (Sleeps-right (changed T g w)) (wake (issue-served r s c o w v .notice) w) (λ e h. woken-right T w (g (T w)) _ (ap (λ x. rule o x v .notice) own-is ∙ rule-tells o (T w) v) e h) (s .waiting d) (was .sleepers d));
     }
       where
         word : deciding .word ≡ changed T g w

@@ -28,10 +28,11 @@ use Rattle.promises.specs.Promises.{Every-entry}
 use Rattle.promises.proofs.Contents.{updated-same, updated-other, updated-back}
 use Rattle.promises.proofs.Frames.{same-state-as}
 use Rattle.promises.proofs.Copies.{claiming, Copies}
-use Rattle.promises.proofs.Entries.{Present, present-sleep, every-sleep}
+use Rattle.promises.proofs.Entries.{Present, present-sleep, every-sleep, every-both, every-weaker}
+use Rattle.promises.proofs.Sleeping.{Sleeps-right}
 use Rattle.promises.proofs.Tenures.{Bus-true, travels-true, snoop-finds, snoop-not-met}
 use Rattle.promises.proofs.Snooping.{snoop-copies}
-use Rattle.promises.proofs.Sound.{Noted, Waits-in, Tenure-waits, Sound, same-memory, tenure-noted, cleared, step-sound, refused-sound}
+use Rattle.promises.proofs.Sound.{note-of, Noted, Waits-in, Tenure-waits, Sound, same-memory, tenure-noted, cleared, step-sound, refused-sound}
 
 -- an unmet operation leaves the word
 pub unmet-word : (o : Operation) (x : Word) (v : ℕ) → met o (x .state) ≡ false → rule o x v .word ≡ x
@@ -67,6 +68,35 @@ module _ (r : Rules) (law : Lawful r) (m : Tagged-memory) (s : State) (was : Sou
         (λ e. subst (λ (f : ℕ → List Entry). Present (t .entry) (f (t .core))) (sym (cond-false _ _ _ e)) (here .present))
         (cases-bool (not (snoop-met r s t) && waits (class-of (t .entry .operation))))
 
+    some-note : {a b : Note} → Some a ≡ Some b → a ≡ b
+    some-note p = cc
+
+    -- one number has one note
+    same-unmet : (x : Entry) → x .number ≡ t .entry .number → Noted m (s .next) (t .core) x → met (t .entry .operation) (m .word (t .entry .word) .state) ≡ false → met (x .operation) (m .word (x .word) .state) ≡ false
+    same-unmet x number h e =
+        let notes : Some (note-of (t .core) x) ≡ Some (note-of (t .core) (t .entry)) = sym (h .note) ∙ ap (m .noted) number ∙ noted in
+        let one = some-note notes in
+        (λ i. met (one i .operation) (m .word (one i .word) .state)) ∙ e
+
+    -- what falls asleep is the request of the tenure, and it is unmet
+    asleep : (c : ℕ) → Every-entry (Sleeps-right (m .word)) (snoop-state r s t .waiting c)
+    asleep c =
+        ⊎-elim
+        (λ e.
+            let not-met = snoop-not-met r law (m .word) s t (was .copies) (travels-true r (m .word) s (s .bus) (was .bus)) quiet (not-true _ (and-parts (not (snoop-met r s t)) _ e .0)) in
+            subst (λ (f : ℕ → List Entry). Every-entry (Sleeps-right (m .word)) (f c)) (sym (cond-true _ _ _ e))
+            (⊎-elim
+            (λ same.
+                subst (Every-entry (Sleeps-right (m .word))) (sym (ap (updated (s .waiting) (t .core) (put-to-sleep (t .entry .number) (s .waiting (t .core)))) same ∙ updated-same (s .waiting) (t .core) _))
+                (every-weaker (λ x. Noted m (s .next) (t .core) x × Sleeps-right (m .word) x) (Sleeps-right (m .word)) (λ x h. h .1) (put-to-sleep (t .entry .number) (s .waiting (t .core)))
+                (every-sleep (λ x. Noted m (s .next) (t .core) x × Sleeps-right (m .word) x) (t .entry .number) (s .waiting (t .core))
+                (λ x number h. (record { note = h .0 .note; below = h .0 .below }, λ _. same-unmet x number (h .0) not-met))
+                (every-both (Noted m (s .next) (t .core)) (Sleeps-right (m .word)) (s .waiting (t .core)) (was .notes (t .core)) (was .sleepers (t .core))))))
+            (λ ne. subst (Every-entry (Sleeps-right (m .word))) (sym (updated-other (s .waiting) (t .core) c _ ne)) (was .sleepers c))
+            (cases-eq c (t .core))))
+        (λ e. subst (λ (f : ℕ → List Entry). Every-entry (Sleeps-right (m .word)) (f c)) (sym (cond-false _ _ _ e)) (was .sleepers c))
+        (cases-bool (not (snoop-met r s t) && waits (class-of (t .entry .operation))))
+
     -- the state after, beside the memory before
     moved-sound : Sound r m (snoop-state r s t)
     moved-sound = record {
@@ -75,6 +105,7 @@ module _ (r : Rules) (law : Lawful r) (m : Tagged-memory) (s : State) (was : Sou
       bus = snoop-finds r law (m .word) s t (was .copies) (travels-true r (m .word) s (s .bus) (was .bus)) quiet;
       notes = lists;
       tenure = record { core = here .core; present = present };
+      sleepers = asleep;
     }
 
     -- a snoop of kind 3 finds the condition unmet, so that the memory's word stays

@@ -23,6 +23,7 @@ use Rattle.promises.proofs.Frames.{keeps-same, same-state-as}
 use Rattle.promises.proofs.Copies.{claiming, Copies, owes-same, owns-same}
 use Rattle.promises.proofs.Entries.{Present, Same-request, every-weaker, every-present}
 use Rattle.promises.proofs.Tenures.{Bus-true}
+use Rattle.promises.proofs.Sleeping.{Sleeps-right}
 
 -- the note under which a waiting request was issued by core c
 abbrev pub note-of : ℕ → Entry → Note
@@ -49,6 +50,7 @@ pub record Sound (r : Rules) (m : Tagged-memory) (s : State) : Type 0 where
   pub bus : Bus-true r (m .word) s (s .bus)
   pub notes : (c : ℕ) → Every-entry (Noted m (s .next) c) (s .waiting c)
   pub tenure : Tenure-waits s (s .bus)
+  pub sleepers : (c : ℕ) → Every-entry (Sleeps-right (m .word)) (s .waiting c)
 
 -- a memory with the same words and notes serves as well
 pub same-memory : (r : Rules) (m n : Tagged-memory) (s : State) → n .word ≡ m .word → n .noted ≡ m .noted → Sound r m s → Sound r n s
@@ -58,6 +60,7 @@ same-memory r m n s word noted was = record {
   bus = subst (λ T. Bus-true r T s (s .bus)) (sym word) (was .bus);
   notes = λ c. every-weaker (Noted m (s .next) c) (Noted n (s .next) c) (λ e h. record { note = ap (λ f. f (e .number)) noted ∙ h .note; below = h .below }) (s .waiting c) (was .notes c);
   tenure = was .tenure;
+  sleepers = λ c. subst (λ T. Every-entry (Sleeps-right T) (s .waiting c)) (sym word) (was .sleepers c);
 }
 
 -- the request that has the bus was noted as it is
