@@ -70,6 +70,11 @@ present-on-word x [] h = absurd h
 present-on-word x (e ∷ es) (inl h) = or-left _ _ (eq-eqb _ _ (sym (h .word)))
 present-on-word x (e ∷ es) (inr h) = or-right _ _ (present-on-word x es h)
 
+pub present-numbered : (x : Entry) (es : List Entry) → Present x es → any-entry (numbered (x .number)) es ≡ true
+present-numbered x [] h = absurd h
+present-numbered x (e ∷ es) (inl h) = or-left _ _ (eq-eqb _ _ (sym (h .number)))
+present-numbered x (e ∷ es) (inr h) = or-right _ _ (present-numbered x es h)
+
 -- the oldest ready request stands in the list
 pub ready-present : (older es : List Entry) (x : Entry) → oldest-ready older es ≡ Some x → Present x es
 ready-present older [] x e = absurd (none-some e)

@@ -1,6 +1,9 @@
+pub mod Accounts
+pub mod Adding
 pub mod Coherent
 pub mod Contents
 pub mod Copies
+pub mod Counting
 pub mod Entries
 pub mod Example
 pub mod Frames

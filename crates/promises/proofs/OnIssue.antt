@@ -252,7 +252,7 @@ module _ (r : Rules) (law : Lawful r) (m : Tagged-memory) (s : State) (was : Sou
         noted-again d e h = record { note = ap (λ x. serve-noted noting (s .next) x .noted (e .number)) fresh ∙ h .note; below = h .below }
 
     -- an issue that answers at once answers for good
-    answers : is-answer (issue-served r s c o w v .outcome) ≡ true
+    pub answers : is-answer (issue-served r s c o w v .outcome) ≡ true
     answers =
         ⊎-elim
         (λ y. ap (λ (x : Served). is-answer (x .outcome)) (cond-true _ _ _ y))

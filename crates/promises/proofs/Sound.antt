@@ -9,6 +9,7 @@ use lib.Dec.{eqb}
 use Rattle.std.proofs.shelf.Tests.{cases-eq, cases-bool, both-ways, cond-true, cond-false}
 use Rattle.std.specs.declared.option.Option.{Option}
 use Rattle.std.specs.declared.option.Option.the-variants.{Some, None}
+use Rattle.std.specs.declared.result.Result.the-variants.{Ok, Err}
 use Rattle.protocol.specs.Rules.{Rules, Lawful}
 use Rattle.tagged.specs.declared.refusals.Refusal.{Refusal}
 use Rattle.tagged.specs.declared.words.Word.{Word}
@@ -97,6 +98,11 @@ cleared (p ∷ ps) e =
     (λ t. absurd (let z : _≡_ {A = Option Refusal} (Some (p .0)) None = sym (cond-true _ _ _ t) ∙ e in let y : _≡_ {A = ℕ} 0 1 = cc in omega arith))
     (λ f. (f, cleared ps (sym (cond-false _ _ _ f) ∙ e)))
     (cases-bool (p .1))
+
+-- a step, by whether it is refused
+pub by-reply : {A : Type 0} (P : Or-refused A → State → Type 0) (s t after : State) (q : Option Refusal) (x : A) (a : Or-refused A) → a ≡ reply-unless q x → Agree t (after-unless q s after) → ((e : Refusal) → P (Err e) s) → (q ≡ None → P (Ok x) after) → P a t
+by-reply P s t after None x a is agree refused accepted = subst (λ b. P b t) (sym is) (subst (P (Ok x)) (sym (same-state-as agree)) (accepted refl))
+by-reply P s t after (Some e) x a is agree refused accepted = subst (λ b. P b t) (sym is) (subst (P (Err e)) (sym (same-state-as agree)) (refused e))
 
 -- a step: refused, it leaves all as it was; else what is to be shown of the call
 pub step-sound : {A : Type 0} (r : Rules) (m : Tagged-memory) (s t after : State) (call : Or-refused A → Call) (q : Option Refusal) (x : A) (a : Or-refused A) → a ≡ reply-unless q x → Agree t (after-unless q s after) → Sound r m s → ((e : Refusal) → feed m (call (reply-unless (Some e) x)) ≡ m) → (q ≡ None → Sound r (feed m (call (reply-unless None x))) after) → Sound r (feed m (call a)) t

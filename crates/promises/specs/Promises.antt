@@ -95,7 +95,7 @@ In-issue-order m (k ∷ ks) = ((j : ℕ) → 1 ≤ times j ks → Same-place (m 
 
 -- ACCOUNTS
 
-abbrev number-if : Bool → ℕ → List ℕ
+abbrev pub number-if : Bool → ℕ → List ℕ
 number-if true k = k ∷ []
 number-if false k = []
 
@@ -161,7 +161,7 @@ Requests-are-accounted h s = (k : ℕ) → times k (over-calls accepted-by h) �
 abbrev pub Numbers-are-given-once : List Call → Type 0
 Numbers-are-given-once h = (k : ℕ) → times k (over-calls accepted-by h) ≤ 1
 
-abbrev had-outcome : Outcome → Outcome → Bool
+abbrev pub had-outcome : Outcome → Outcome → Bool
 had-outcome Done Done = true
 had-outcome Done Discarded = false
 had-outcome Done Trap = false
