@@ -50,8 +50,8 @@ module _ {F : List Entry → ℕ} {a : ℕ → ℕ} (m : Measure F a) where
       ⊎-elim
       (λ t. ap (λ l. F l + a k) (cond-true _ _ _ t) ∙ omega (arith, m .more x es, ap a (eqb-true _ k t)))
       (λ f.
-          let rest = measure-remove k es (⊎-elim (λ t. absurd (both-ways _ f t)) (λ t. t) (or-cases (numbered k x) _ e)) in
-          ap (λ l. F l + a k) (cond-false _ _ _ f) ∙ omega (arith, m .more x (without k es), m .more x es, rest))
+      let rest = measure-remove k es (⊎-elim (λ t. absurd (both-ways _ f t)) (λ t. t) (or-cases (numbered k x) _ e)) in
+      ap (λ l. F l + a k) (cond-false _ _ _ f) ∙ omega (arith, m .more x (without k es), m .more x es, rest))
       (cases-bool (numbered k x))
 
 -- the count over all lists, where one of them changes

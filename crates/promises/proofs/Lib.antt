@@ -1,3 +1,4 @@
+pub mod Accounted
 pub mod Accounts
 pub mod Adding
 pub mod Coherent

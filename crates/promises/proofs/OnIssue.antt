@@ -105,8 +105,8 @@ module _ (r : Rules) (law : Lawful r) (m : Tagged-memory) (s : State) (was : Sou
     sleepers = λ d.
         ⊎-elim
         (λ same.
-            subst (Every-entry (Sleeps-right T)) (sym (ap (updated (s .waiting) c _) same ∙ updated-same (s .waiting) c _))
-            (every-append (Sleeps-right T) (s .waiting c) _ (was .sleepers c) new-sleeper))
+        subst (Every-entry (Sleeps-right T)) (sym (ap (updated (s .waiting) c _) same ∙ updated-same (s .waiting) c _))
+        (every-append (Sleeps-right T) (s .waiting c) _ (was .sleepers c) new-sleeper))
         (λ ne. subst (Every-entry (Sleeps-right T)) (sym (updated-other (s .waiting) c d _ ne)) (was .sleepers d))
         (cases-eq d c);
   }

@@ -83,17 +83,17 @@ module _ (r : Rules) (law : Lawful r) (m : Tagged-memory) (s : State) (was : Sou
     asleep c =
         ⊎-elim
         (λ e.
-            let not-met = snoop-not-met r law (m .word) s t (was .copies) (travels-true r (m .word) s (s .bus) (was .bus)) quiet (not-true _ (and-parts (not (snoop-met r s t)) _ e .0)) in
-            subst (λ (f : ℕ → List Entry). Every-entry (Sleeps-right (m .word)) (f c)) (sym (cond-true _ _ _ e))
-            (⊎-elim
-            (λ same.
-                subst (Every-entry (Sleeps-right (m .word))) (sym (ap (updated (s .waiting) (t .core) (put-to-sleep (t .entry .number) (s .waiting (t .core)))) same ∙ updated-same (s .waiting) (t .core) _))
-                (every-weaker (λ x. Noted m (s .next) (t .core) x × Sleeps-right (m .word) x) (Sleeps-right (m .word)) (λ x h. h .1) (put-to-sleep (t .entry .number) (s .waiting (t .core)))
-                (every-sleep (λ x. Noted m (s .next) (t .core) x × Sleeps-right (m .word) x) (t .entry .number) (s .waiting (t .core))
-                (λ x number h. (record { note = h .0 .note; below = h .0 .below }, λ _. same-unmet x number (h .0) not-met))
-                (every-both (Noted m (s .next) (t .core)) (Sleeps-right (m .word)) (s .waiting (t .core)) (was .notes (t .core)) (was .sleepers (t .core))))))
-            (λ ne. subst (Every-entry (Sleeps-right (m .word))) (sym (updated-other (s .waiting) (t .core) c _ ne)) (was .sleepers c))
-            (cases-eq c (t .core))))
+        let not-met = snoop-not-met r law (m .word) s t (was .copies) (travels-true r (m .word) s (s .bus) (was .bus)) quiet (not-true _ (and-parts (not (snoop-met r s t)) _ e .0)) in
+        subst (λ (f : ℕ → List Entry). Every-entry (Sleeps-right (m .word)) (f c)) (sym (cond-true _ _ _ e))
+        (⊎-elim
+        (λ same.
+        subst (Every-entry (Sleeps-right (m .word))) (sym (ap (updated (s .waiting) (t .core) (put-to-sleep (t .entry .number) (s .waiting (t .core)))) same ∙ updated-same (s .waiting) (t .core) _))
+        (every-weaker (λ x. Noted m (s .next) (t .core) x × Sleeps-right (m .word) x) (Sleeps-right (m .word)) (λ x h. h .1) (put-to-sleep (t .entry .number) (s .waiting (t .core)))
+        (every-sleep (λ x. Noted m (s .next) (t .core) x × Sleeps-right (m .word) x) (t .entry .number) (s .waiting (t .core))
+        (λ x number h. (record { note = h .0 .note; below = h .0 .below }, λ _. same-unmet x number (h .0) not-met))
+        (every-both (Noted m (s .next) (t .core)) (Sleeps-right (m .word)) (s .waiting (t .core)) (was .notes (t .core)) (was .sleepers (t .core))))))
+        (λ ne. subst (Every-entry (Sleeps-right (m .word))) (sym (updated-other (s .waiting) (t .core) c _ ne)) (was .sleepers c))
+        (cases-eq c (t .core))))
         (λ e. subst (λ (f : ℕ → List Entry). Every-entry (Sleeps-right (m .word)) (f c)) (sym (cond-false _ _ _ e)) (was .sleepers c))
         (cases-bool (not (snoop-met r s t) && waits (class-of (t .entry .operation))))
 

@@ -48,11 +48,11 @@ woken-right T w x n told e right =
     sleeper silent asleep =
         ⊎-elim
         (λ same.
-            let unheard : needs-told (condition (e .operation)) (told-state n) ≡ false =
-                ⊎-elim (λ f. absurd (both-ways _ f asleep)) (λ f. ⊎-elim (λ g. absurd (both-ways _ g (eq-eqb _ _ same))) (λ g. g) (and-cases (on-word w e) _ f)) (and-cases (e .asleep) _ silent)
-            in
-            ap (λ (y : Word). met (e .operation) (y .state)) (ap (updated T w x) same ∙ updated-same T w x)
-            ∙ untold (condition (e .operation)) (T w .state) (x .state) (ap (λ k. met (e .operation) (T k .state)) (sym same) ∙ right asleep) (ap (λ k. needs-told (condition (e .operation)) (told-state k)) (sym told) ∙ unheard))
+        let unheard : needs-told (condition (e .operation)) (told-state n) ≡ false =
+        ⊎-elim (λ f. absurd (both-ways _ f asleep)) (λ f. ⊎-elim (λ g. absurd (both-ways _ g (eq-eqb _ _ same))) (λ g. g) (and-cases (on-word w e) _ f)) (and-cases (e .asleep) _ silent)
+        in
+        ap (λ (y : Word). met (e .operation) (y .state)) (ap (updated T w x) same ∙ updated-same T w x)
+        ∙ untold (condition (e .operation)) (T w .state) (x .state) (ap (λ k. met (e .operation) (T k .state)) (sym same) ∙ right asleep) (ap (λ k. needs-told (condition (e .operation)) (told-state k)) (sym told) ∙ unheard))
         (λ ne. ap (λ (y : Word). met (e .operation) (y .state)) (updated-other T w (e .word) x ne) ∙ right asleep)
         (cases-eq (e .word) w)
 

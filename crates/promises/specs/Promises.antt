@@ -148,11 +148,11 @@ over-calls f [] = []
 over-calls f (c ∷ h) = f c ++ over-calls f h
 
 -- the numbers that wait in the lists of cores 0 to 7
+abbrev pub list-numbers : State → ℕ → List ℕ
+list-numbers s c = map (λ (e : Entry). e .number) (s .waiting c)
+
 abbrev pub waiting-numbers : State → List ℕ
-waiting-numbers s = numbers 0 ++ (numbers 1 ++ (numbers 2 ++ (numbers 3 ++ (numbers 4 ++ (numbers 5 ++ (numbers 6 ++ numbers 7))))))
-  where
-    numbers : ℕ → List ℕ
-    numbers c = map (λ (e : Entry). e .number) (s .waiting c)
+waiting-numbers s = list-numbers s 0 ++ (list-numbers s 1 ++ (list-numbers s 2 ++ (list-numbers s 3 ++ (list-numbers s 4 ++ (list-numbers s 5 ++ (list-numbers s 6 ++ list-numbers s 7))))))
 
 -- each accepted request was answered once, was withdrawn, or waits: exactly one of these; and no other number was or does
 abbrev pub Requests-are-accounted : List Call → State → Type 0
@@ -210,6 +210,12 @@ Every-entry P (e ∷ es) = P e × Every-entry P es
 abbrev pub Nobody-sleeps-through : Tagged-memory → State → Type 0
 Nobody-sleeps-through m s = (c : ℕ) → Every-entry (λ e. e .asleep ≡ true → met (e .operation) (m .word (e .word) .state) ≡ false) (s .waiting c)
 
+pub record Accounted (o : Opening) (h : List Call) (s : State) : Type 0 where
+  pub requests-are-accounted : Requests-are-accounted h s
+  pub numbers-are-given-once : Numbers-are-given-once h
+  pub tallies-are-true : Tallies-are-true h
+  pub nobody-sleeps-through : Nobody-sleeps-through (one-memory (o .memory) h) s
+
 -- THE PROMISES
 
 pub record Promises (r : Rules) (o : Opening) (h : List Call) (s : State) : Type 0 where
@@ -228,6 +234,9 @@ pub record Promises (r : Rules) (o : Opening) (h : List Call) (s : State) : Type
 abbrev pub Every-run-keeps-its-promises : Type 0
 Every-run-keeps-its-promises = (r : Rules) → Lawful r → (o : Opening) (h : List Call) (s : State) → Ran r o h s → Promises r o h s
 
--- the first part of it, by itself
+-- two parts of it, by themselves
 abbrev pub Every-run-is-coherent : Type 0
 Every-run-is-coherent = (r : Rules) → Lawful r → (o : Opening) (h : List Call) (s : State) → Ran r o h s → Coherent r s
+
+abbrev pub Every-run-is-accounted : Type 0
+Every-run-is-accounted = (r : Rules) → Lawful r → (o : Opening) (h : List Call) (s : State) → Ran r o h s → Accounted o h s

@@ -1,6 +1,6 @@
 // What holds after every list of calls: mathematics over what each call does, for every lawful protocol and memory.
 ghost use Rattle.promises.specs.Example.{Example-is-a-run};
-ghost use Rattle.promises.specs.Promises.{Every-run-is-coherent};
+ghost use Rattle.promises.specs.Promises.{Every-run-is-coherent, Every-run-is-accounted};
 ghost use Rattle.promises.specs.Runs.{Steps-leave-nothing-open};
 
 // What each call does is fixed: with the same arguments on the same board it answers and leaves the same.
@@ -21,6 +21,14 @@ pub fn example_is_a_run() -> u8
 // copy of its line, and kept copies of a line are equal.
 pub fn runs_are_coherent() -> u8
     ensures { λ _. ⌜ Every-run-is-coherent ⌝ }
+{
+    0
+}
+
+// Likewise: each accepted request was answered once, was withdrawn or waits; no number is given twice; tallies count; and
+// no request sleeps while its word has the state that it waits for.
+pub fn runs_are_accounted() -> u8
+    ensures { λ _. ⌜ Every-run-is-accounted ⌝ }
 {
     0
 }
