@@ -20,5 +20,6 @@ pub mod Settling
 pub mod Sleeping
 pub mod Snooping
 pub mod Sound
+pub mod Speaking
 pub mod Standing
 pub mod Tenures

@@ -132,7 +132,7 @@ module _ (r : Rules) (law : Lawful r) (m : Tagged-memory) (s : State) (was : Sou
     abbrev claim : Bool
     claim = own-met r s c o w v && claims o
 
-    own-is : own-word r s c o w v ≡ T w
+    pub own-is : own-word r s c o w v ≡ m .word w
     own-is = ap (λ f. word-in f w) (was .copies .true-copies c n kept) ∙ line-word T w
 
     sole : claim ≡ true → r .sole (copy s c n .code) ≡ true
