@@ -21,5 +21,6 @@ pub mod Sleeping
 pub mod Snooping
 pub mod Sound
 pub mod Speaking
+pub mod Spoken
 pub mod Standing
 pub mod Tenures

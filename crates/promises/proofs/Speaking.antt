@@ -97,12 +97,11 @@ module _ (r : Rules) (law : Lawful r) (op : Opening) (m : Tagged-memory) (s : St
 
       by : (q : Option Refusal) → first-reason (save-reasons s (length before)) ≡ q → Speaks-true op m (save before after a)
       by None e =
-          subst (λ b. Speaks-true op m (save before after b)) (sym (step .0 ∙ ap (λ x. reply-unless x (picture-length (served-lines s))) e))
-          (
+          subst (λ b. Speaks-true op m (save before after b)) (sym (step .0 ∙ ap (λ x. reply-unless x (picture-length (served-lines s))) e)) (
             ap picture-length served,
             step .1 ∙ ap (λ x. after-unless x before (picture-of (served-lines s) (stands r s) ++ drop (picture-length (served-lines s)) before)) e
-            ∙ ap (λ f. picture-of (served-lines s) f ++ drop (picture-length (served-lines s)) before) (λ i n. standing n i)
-            ∙ ap (λ n. picture-of n (line-by-words (m .word)) ++ drop (picture-length (served-lines s)) before) served,
+                ∙ ap (λ f. picture-of (served-lines s) f ++ drop (picture-length (served-lines s)) before) (λ i n. standing n i)
+                ∙ ap (λ n. picture-of n (line-by-words (m .word)) ++ drop (picture-length (served-lines s)) before) served,
           )
       by (Some x) e =
           subst (λ b. Speaks-true op m (save before after b)) (sym (step .0 ∙ ap (λ y. reply-unless y (picture-length (served-lines s))) e))
@@ -116,7 +115,7 @@ module _ (r : Rules) (law : Lawful r) (op : Opening) (m : Tagged-memory) (s : St
         let noted = tenure-noted r m s t was here .note in
         let word : word-in before (t .entry .word) ≡ m .word (t .entry .word) = ap (λ f. word-in f (t .entry .word)) line ∙ line-word (m .word) (t .entry .word) in
         let same : done-by (t .entry .operation) (word-in before (t .entry .word)) (t .entry .value) ≡ rule (t .entry .operation) (m .word (t .entry .word)) (t .entry .value) =
-            ap (λ x. done-by (t .entry .operation) x (t .entry .value)) word ∙ sym (cond-true (met (t .entry .operation) (m .word (t .entry .word) .state)) _ _ is)
+        ap (λ x. done-by (t .entry .operation) x (t .entry .value)) word ∙ sym (cond-true (met (t .entry .operation) (m .word (t .entry .word) .state)) _ _ is)
         in
         record {
           given = rule (t .entry .operation) (m .word (t .entry .word)) (t .entry .value);
@@ -269,9 +268,9 @@ module _ (r : Rules) (law : Lawful r) (op : Opening) (m : Tagged-memory) (s : St
               ⊎-elim
               (λ o. both-ways false refl (sym (ap is-unmet (cond-true _ _ _ y ∙ cond-true _ _ _ o)) ∙ ap is-unmet e))
               (λ o.
-                  ⊎-elim (λ c. both-ways false refl (sym (ap is-unmet (cond-true _ _ _ y ∙ cond-false _ _ _ o ∙ cond-true _ _ _ c)) ∙ ap is-unmet e))
-                  (λ c. both-ways false refl (sym (ap is-unmet (cond-true _ _ _ y ∙ cond-false _ _ _ o ∙ cond-false _ _ _ c)) ∙ ap is-unmet e))
-                  (cases-bool (claims (t .entry .operation))))
+              ⊎-elim (λ c. both-ways false refl (sym (ap is-unmet (cond-true _ _ _ y ∙ cond-false _ _ _ o ∙ cond-true _ _ _ c)) ∙ ap is-unmet e))
+              (λ c. both-ways false refl (sym (ap is-unmet (cond-true _ _ _ y ∙ cond-false _ _ _ o ∙ cond-false _ _ _ c)) ∙ ap is-unmet e))
+              (cases-bool (claims (t .entry .operation))))
               (cases-bool (own-suffices r s t))
 
   -- WHAT IS OWED AFTER EACH CALL

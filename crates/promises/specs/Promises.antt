@@ -234,9 +234,12 @@ pub record Promises (r : Rules) (o : Opening) (h : List Call) (s : State) : Type
 abbrev pub Every-run-keeps-its-promises : Type 0
 Every-run-keeps-its-promises = (r : Rules) → Lawful r → (o : Opening) (h : List Call) (s : State) → Ran r o h s → Promises r o h s
 
--- two parts of it, by themselves
+-- three parts of it, by themselves
 abbrev pub Every-run-is-coherent : Type 0
 Every-run-is-coherent = (r : Rules) → Lawful r → (o : Opening) (h : List Call) (s : State) → Ran r o h s → Coherent r s
 
 abbrev pub Every-run-is-accounted : Type 0
 Every-run-is-accounted = (r : Rules) → Lawful r → (o : Opening) (h : List Call) (s : State) → Ran r o h s → Accounted o h s
+
+abbrev pub Every-run-speaks-true : Type 0
+Every-run-speaks-true = (r : Rules) → Lawful r → (o : Opening) (h : List Call) (s : State) → Ran r o h s → All-speak-true o h

@@ -1,6 +1,6 @@
 // What holds after every list of calls: mathematics over what each call does, for every lawful protocol and memory.
 ghost use Rattle.promises.specs.Example.{Example-is-a-run};
-ghost use Rattle.promises.specs.Promises.{Every-run-is-coherent, Every-run-is-accounted};
+ghost use Rattle.promises.specs.Promises.{Every-run-is-coherent, Every-run-is-accounted, Every-run-speaks-true};
 ghost use Rattle.promises.specs.Runs.{Steps-leave-nothing-open};
 
 // What each call does is fixed: with the same arguments on the same board it answers and leaves the same.
@@ -29,6 +29,14 @@ pub fn runs_are_coherent() -> u8
 // no request sleeps while its word has the state that it waits for.
 pub fn runs_are_accounted() -> u8
     ensures { λ _. ⌜ Every-run-is-accounted ⌝ }
+{
+    0
+}
+
+// Likewise: every answer holds what one tagged memory gave that request as it was decided, and look and save show that
+// memory.
+pub fn runs_speak_true() -> u8
+    ensures { λ _. ⌜ Every-run-speaks-true ⌝ }
 {
     0
 }
