@@ -5,6 +5,8 @@ pub mod Coherent
 pub mod Contents
 pub mod Copies
 pub mod Counting
+pub mod DecidedOnce
+pub mod Deciding
 pub mod Entries
 pub mod Example
 pub mod Frames

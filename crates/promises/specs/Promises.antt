@@ -82,6 +82,14 @@ All-speak-true o (c ∷ h) = Speaks-true o (one-memory (o .memory) (c ∷ h)) c 
 abbrev pub times : ℕ → List ℕ → ℕ
 times k ks = countBy (eqb k) ks
 
+-- no request is decided twice
+abbrev pub Decided-once : Tagged-memory → Type 0
+Decided-once m = (k : ℕ) → times k (m .decided) ≤ 1
+
+-- what is decided was issued before: the memory had its note, and gave it something
+abbrev pub Decided-after-issue : Tagged-memory → Type 0
+Decided-after-issue m = (k : ℕ) → 1 ≤ times k (m .decided) → isSome (m .gave k) ≡ true
+
 -- j and k are requests of one core on one word
 abbrev pub Same-place : Option Note → Option Note → Type 0
 Same-place None y = ⊥
@@ -222,8 +230,8 @@ pub record Promises (r : Rules) (o : Opening) (h : List Call) (s : State) : Type
   pub writers-are-alone : Writers-are-alone r s
   pub copies-are-equal : Copies-are-equal r s
   pub all-speak-true : All-speak-true o h
-  pub decided-once : (k : ℕ) → times k (one-memory (o .memory) h .decided) ≤ 1
-  pub decided-after-issue : (k : ℕ) → 1 ≤ times k (one-memory (o .memory) h .decided) → isSome (one-memory (o .memory) h .gave k) ≡ true
+  pub decided-once : Decided-once (one-memory (o .memory) h)
+  pub decided-after-issue : Decided-after-issue (one-memory (o .memory) h)
   pub decided-in-issue-order : In-issue-order (one-memory (o .memory) h) (one-memory (o .memory) h .decided)
   pub requests-are-accounted : Requests-are-accounted h s
   pub numbers-are-given-once : Numbers-are-given-once h
@@ -234,7 +242,7 @@ pub record Promises (r : Rules) (o : Opening) (h : List Call) (s : State) : Type
 abbrev pub Every-run-keeps-its-promises : Type 0
 Every-run-keeps-its-promises = (r : Rules) → Lawful r → (o : Opening) (h : List Call) (s : State) → Ran r o h s → Promises r o h s
 
--- three parts of it, by themselves
+-- five parts of it, by themselves
 abbrev pub Every-run-is-coherent : Type 0
 Every-run-is-coherent = (r : Rules) → Lawful r → (o : Opening) (h : List Call) (s : State) → Ran r o h s → Coherent r s
 
@@ -243,3 +251,9 @@ Every-run-is-accounted = (r : Rules) → Lawful r → (o : Opening) (h : List Ca
 
 abbrev pub Every-run-speaks-true : Type 0
 Every-run-speaks-true = (r : Rules) → Lawful r → (o : Opening) (h : List Call) (s : State) → Ran r o h s → All-speak-true o h
+
+abbrev pub Every-run-decides-after-issue : Type 0
+Every-run-decides-after-issue = (r : Rules) → Lawful r → (o : Opening) (h : List Call) (s : State) → Ran r o h s → Decided-after-issue (one-memory (o .memory) h)
+
+abbrev pub Every-run-decides-once : Type 0
+Every-run-decides-once = (r : Rules) → Lawful r → (o : Opening) (h : List Call) (s : State) → Ran r o h s → Decided-once (one-memory (o .memory) h)

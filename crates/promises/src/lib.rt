@@ -1,6 +1,6 @@
 // What holds after every list of calls: mathematics over what each call does, for every lawful protocol and memory.
 ghost use Rattle.promises.specs.Example.{Example-is-a-run};
-ghost use Rattle.promises.specs.Promises.{Every-run-is-coherent, Every-run-is-accounted, Every-run-speaks-true};
+ghost use Rattle.promises.specs.Promises.{Every-run-is-coherent, Every-run-is-accounted, Every-run-speaks-true, Every-run-decides-after-issue, Every-run-decides-once};
 ghost use Rattle.promises.specs.Runs.{Steps-leave-nothing-open};
 
 // What each call does is fixed: with the same arguments on the same board it answers and leaves the same.
@@ -37,6 +37,20 @@ pub fn runs_are_accounted() -> u8
 // memory.
 pub fn runs_speak_true() -> u8
     ensures { λ _. ⌜ Every-run-speaks-true ⌝ }
+{
+    0
+}
+
+// Likewise: that memory decides only requests that were issued before.
+pub fn runs_decide_after_issue() -> u8
+    ensures { λ _. ⌜ Every-run-decides-after-issue ⌝ }
+{
+    0
+}
+
+// Likewise: that memory decides no request twice.
+pub fn runs_decide_once() -> u8
+    ensures { λ _. ⌜ Every-run-decides-once ⌝ }
 {
     0
 }
