@@ -51,7 +51,7 @@ decided-if : (b : Bool) (p q : Tagged-memory) (k : ℕ) (ks : List ℕ) → p .d
 decided-if true p q k ks e f = e
 decided-if false p q k ks e f = f
 
-same-unless : (s : State) (q : Option Refusal) → after-unless q s s ≡ s
+pub same-unless : (s : State) (q : Option Refusal) → after-unless q s s ≡ s
 same-unless s None = refl
 same-unless s (Some e) = refl
 
@@ -89,10 +89,10 @@ module _ (r : Rules) (h : List Call) (m : Tagged-memory) (s : State) (sound : So
       let rhs = times-append j (number-if b (a .number)) (over-calls (answered-by is-answer) h) in
       omega (arith, now, lhs, rhs, was j)
 
-  mine : (slip : Slip) → first-reason (slip-reasons s slip to-snoop) ≡ None → bus-at (s .bus) to-snoop (slip .number) ≡ true
+  pub mine : (slip : Slip) → first-reason (slip-reasons s slip to-snoop) ≡ None → bus-at (s .bus) to-snoop (slip .number) ≡ true
   mine slip none = and-parts (eqb (slip .board) (s .setup .board)) _ (and-parts (same-stage (slip .stage) to-snoop) _ (not-false (of-tenure s slip to-snoop) (cleared (slip-reasons s slip to-snoop) none .0)) .1) .1
 
-  mine-settled : (slip : Slip) → first-reason (slip-reasons s slip to-settle) ≡ None → bus-at (s .bus) to-settle (slip .number) ≡ true
+  pub mine-settled : (slip : Slip) → first-reason (slip-reasons s slip to-settle) ≡ None → bus-at (s .bus) to-settle (slip .number) ≡ true
   mine-settled slip none = and-parts (eqb (slip .board) (s .setup .board)) _ (and-parts (same-stage (slip .stage) to-settle) _ (not-false (of-tenure s slip to-settle) (cleared (slip-reasons s slip to-settle) none .0)) .1) .1
 
   -- SNOOP

@@ -6,7 +6,7 @@ use mathlib.Core.Logic.{⊎-elim}
 use Prim.Native.Nat.{ℕ, _≤_}
 use native.Mathlib.Omega.{arith}
 use lib.Dec.{eqb}
-use Rattle.std.proofs.shelf.Tests.{cases-eq, ne-eqb, and-parts, both-ways, cond-true, cond-false}
+use Rattle.std.proofs.shelf.Tests.{cases-eq, ne-eqb, eq-eqb, and-parts, both-ways, cond-true, cond-false}
 use Rattle.std.specs.Options.{isSome}
 use Rattle.std.specs.declared.option.Option.{Option}
 use Rattle.std.specs.declared.option.Option.the-variants.{Some, None}
@@ -31,7 +31,10 @@ pub counts-it : (m : Tagged-memory) (k : ℕ) (x : Option Note) → serve-noted 
 counts-it m k None = refl
 counts-it m k (Some x) = refl
 
-one-other : (j k : ℕ) → (j ≡ k → ⊥) → one j k ≡ 0
+pub one-itself : (k : ℕ) → one k k ≡ 1
+one-itself k = cond-true (eqb k k) 1 0 (eq-eqb k k refl)
+
+pub one-other : (j k : ℕ) → (j ≡ k → ⊥) → one j k ≡ 0
 one-other j k ne = cond-false (eqb j k) 1 0 (ne-eqb j k ne)
 
 decides : (m : Tagged-memory) (k : ℕ) (x : Option Note) → isSome (serve-noted m k x .gave k) ≡ true → Decided-after-issue m → Decided-after-issue (serve-noted m k x)

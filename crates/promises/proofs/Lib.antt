@@ -11,13 +11,17 @@ pub mod Entries
 pub mod Example
 pub mod Frames
 pub mod InPlace
+pub mod Kept
 pub mod OnBus
 pub mod OnEvict
 pub mod OnIssue
 pub mod OnSettle
 pub mod OnSnoop
 pub mod Open
+pub mod Ordered
+pub mod Ordering
 pub mod Putting
+pub mod Rising
 pub mod Settling
 pub mod Sleeping
 pub mod Snooping

@@ -242,7 +242,11 @@ pub record Promises (r : Rules) (o : Opening) (h : List Call) (s : State) : Type
 abbrev pub Every-run-keeps-its-promises : Type 0
 Every-run-keeps-its-promises = (r : Rules) → Lawful r → (o : Opening) (h : List Call) (s : State) → Ran r o h s → Promises r o h s
 
--- five parts of it, by themselves
+-- and so it does with one more step
+abbrev pub One-more-step-keeps-the-promises : Type 0
+One-more-step-keeps-the-promises = (r : Rules) → Lawful r → (o : Opening) (h : List Call) (s : State) → Ran r o h s → (c : Call) (t : State) → Step r s c t → Promises r o (c ∷ h) t
+
+-- the parts, by themselves
 abbrev pub Every-run-is-coherent : Type 0
 Every-run-is-coherent = (r : Rules) → Lawful r → (o : Opening) (h : List Call) (s : State) → Ran r o h s → Coherent r s
 
@@ -257,3 +261,6 @@ Every-run-decides-after-issue = (r : Rules) → Lawful r → (o : Opening) (h : 
 
 abbrev pub Every-run-decides-once : Type 0
 Every-run-decides-once = (r : Rules) → Lawful r → (o : Opening) (h : List Call) (s : State) → Ran r o h s → Decided-once (one-memory (o .memory) h)
+
+abbrev pub Every-run-decides-in-issue-order : Type 0
+Every-run-decides-in-issue-order = (r : Rules) → Lawful r → (o : Opening) (h : List Call) (s : State) → Ran r o h s → In-issue-order (one-memory (o .memory) h) (one-memory (o .memory) h .decided)

@@ -1,6 +1,6 @@
 // What holds after every list of calls: mathematics over what each call does, for every lawful protocol and memory.
 ghost use Rattle.promises.specs.Example.{Example-is-a-run};
-ghost use Rattle.promises.specs.Promises.{Every-run-is-coherent, Every-run-is-accounted, Every-run-speaks-true, Every-run-decides-after-issue, Every-run-decides-once};
+ghost use Rattle.promises.specs.Promises.{Every-run-keeps-its-promises, One-more-step-keeps-the-promises};
 ghost use Rattle.promises.specs.Runs.{Steps-leave-nothing-open};
 
 // What each call does is fixed: with the same arguments on the same board it answers and leaves the same.
@@ -17,40 +17,18 @@ pub fn example_is_a_run() -> u8
     0
 }
 
-// For every lawful protocol and every memory: whatever calls a board has had, a copy that may be written is the only kept
-// copy of its line, and kept copies of a line are equal.
-pub fn runs_are_coherent() -> u8
-    ensures { λ _. ⌜ Every-run-is-coherent ⌝ }
+// For every lawful protocol and every memory: whatever calls a board has had, its caches are coherent, every answer is
+// that of one tagged memory which decides each request at most once, after its issue and in the order of issue, and every
+// accepted request is accounted for.
+pub fn runs_keep_their_promises() -> u8
+    ensures { λ _. ⌜ Every-run-keeps-its-promises ⌝ }
 {
     0
 }
 
-// Likewise: each accepted request was answered once, was withdrawn or waits; no number is given twice; tallies count; and
-// no request sleeps while its word has the state that it waits for.
-pub fn runs_are_accounted() -> u8
-    ensures { λ _. ⌜ Every-run-is-accounted ⌝ }
-{
-    0
-}
-
-// Likewise: every answer holds what one tagged memory gave that request as it was decided, and look and save show that
-// memory.
-pub fn runs_speak_true() -> u8
-    ensures { λ _. ⌜ Every-run-speaks-true ⌝ }
-{
-    0
-}
-
-// Likewise: that memory decides only requests that were issued before.
-pub fn runs_decide_after_issue() -> u8
-    ensures { λ _. ⌜ Every-run-decides-after-issue ⌝ }
-{
-    0
-}
-
-// Likewise: that memory decides no request twice.
-pub fn runs_decide_once() -> u8
-    ensures { λ _. ⌜ Every-run-decides-once ⌝ }
+// The same in the form that a call's contract carries: whatever run led to a state, one more step keeps every promise.
+pub fn one_more_step_keeps_the_promises() -> u8
+    ensures { λ _. ⌜ One-more-step-keeps-the-promises ⌝ }
 {
     0
 }
