@@ -64,7 +64,7 @@ done-is-answer Discarded e = refl
 done-is-answer Trap e = refl
 done-is-answer Waits e = e
 
-when-answered : {P : Type 0} (b : Bool) → b ≡ true → cond {A = Type 0} b P (Unit {0}) → P
+pub when-answered : {P : Type 0} (b : Bool) → b ≡ true → cond {A = Type 0} b P (Unit {0}) → P
 when-answered true e p = p
 when-answered false e p = absurd (both-ways false refl e)
 

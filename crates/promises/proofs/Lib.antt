@@ -21,6 +21,7 @@ pub mod Open
 pub mod Ordered
 pub mod Ordering
 pub mod Putting
+pub mod Refuting
 pub mod Rising
 pub mod Settling
 pub mod Sleeping

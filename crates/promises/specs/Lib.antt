@@ -8,3 +8,4 @@ pub mod Runs
 pub mod Example
 pub mod OneMemory
 pub mod Promises
+pub mod Refuted

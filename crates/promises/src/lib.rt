@@ -1,6 +1,6 @@
 // What holds after every list of calls: mathematics over what each call does, for every lawful protocol and memory.
-ghost use Rattle.promises.specs.Example.{Example-is-a-run};
 ghost use Rattle.promises.specs.Promises.{Every-run-keeps-its-promises, One-more-step-keeps-the-promises};
+ghost use Rattle.promises.specs.Refuted.{Promises-tell-true-from-false};
 ghost use Rattle.promises.specs.Runs.{Steps-leave-nothing-open};
 
 // What each call does is fixed: with the same arguments on the same board it answers and leaves the same.
@@ -10,9 +10,11 @@ pub fn steps_leave_nothing_open() -> u8
     0
 }
 
-// There are runs: thirteen calls of two cores, written out with their answers, are one.
-pub fn example_is_a_run() -> u8
-    ensures { λ _. ⌜ Example-is-a-run ⌝ }
+// There are runs: thirteen calls of two cores, written out with their answers, are one. And what is false keeps no
+// promises: an altered answer, a number given or answered twice, a withdrawn request that is answered, a false look or
+// tally, swapped decisions, two writers, unequal copies, a sleeper whose word is ready.
+pub fn promises_tell_true_from_false() -> u8
+    ensures { λ _. ⌜ Promises-tell-true-from-false ⌝ }
 {
     0
 }
