@@ -1,14 +1,14 @@
 -- Histories and states that are false, and that the promises refuse.
 use mathlib.Core.Path.{_≡_}
 use mathlib.Core.Bool.{true, false}
-use mathlib.Core.List.{List, _∷_}
-use Prim.Native.Nat.{ℕ, _<_, _≤_}
+use mathlib.Core.List.{List, _∷_, _++_}
+use Prim.Native.Nat.{ℕ, _+_, _<_, _≤_}
 use lib.ListN.{length}
 use Rattle.std.specs.declared.result.Result.the-variants.{Ok}
 use Rattle.protocol.specs.Rules.{Rules}
 use Rattle.tagged.specs.Rule.{met}
 use Rattle.tagged.specs.declared.answers.Answer.{Answer}
-use Rattle.tagged.specs.declared.answers.Outcome.the-variants.{Done}
+use Rattle.tagged.specs.declared.answers.Outcome.the-variants.{Done, Discarded, Trap}
 use Rattle.tagged.specs.declared.words.Word.{Word}
 use Rattle.promises.specs.Board.{Entry, State}
 use Rattle.promises.specs.Calls.{Slip, Call, settle, look, tally, Tally}
@@ -40,8 +40,15 @@ module _ (r : Rules) (o : Opening) where
   abbrev Look-shows-another : Type 0
   Look-shows-another = (w : ℕ) (x y : Word) (h : List Call) → (x ≡ y → ⊥) → Refused (look w (Ok x) ∷ look w (Ok y) ∷ h)
 
+  -- one figure is no count, or the first is not the sum of the others
   abbrev Tally-off : Type 0
-  Tally-off = (x : Tally) (h : List Call) → (x .done ≡ length (over-calls (answered-by (had-outcome Done)) h) → ⊥) → Refused (tally x ∷ h)
+  Tally-off = (x : Tally) (h : List Call) →
+      ((x .accepted ≡ length (over-calls accepted-by h) → ⊥) → Refused (tally x ∷ h))
+      × ((x .done ≡ length (over-calls (answered-by (had-outcome Done)) h) → ⊥) → Refused (tally x ∷ h))
+      × ((x .discarded ≡ length (over-calls (answered-by (had-outcome Discarded)) h) → ⊥) → Refused (tally x ∷ h))
+      × ((x .trapped ≡ length (over-calls (answered-by (had-outcome Trap)) h) → ⊥) → Refused (tally x ∷ h))
+      × ((x .withdrawn ≡ length (over-calls withdrawn-by h) → ⊥) → Refused (tally x ∷ h))
+      × ((x .accepted ≡ x .done + x .discarded + x .trapped + x .withdrawn + x .waiting → ⊥) → Refused (tally x ∷ h))
 
   -- of one core on one word, the later issued was decided first
   abbrev Decisions-swapped : Type 0
@@ -54,7 +61,7 @@ module _ (r : Rules) (o : Opening) where
   Unequal-copies = (c d n : ℕ) (h : List Call) (s : State) → keeps r s c n ≡ true → keeps r s d n ≡ true → (copy s c n .content ≡ copy s d n .content → ⊥) → Promises r o h s → ⊥
 
   abbrev Ready-sleeper : Type 0
-  Ready-sleeper = (c : ℕ) (e : Entry) (es : List Entry) (h : List Call) (s : State) → s .waiting c ≡ e ∷ es → e .asleep ≡ true → met (e .operation) (one-memory (o .memory) h .word (e .word) .state) ≡ true → Promises r o h s → ⊥
+  Ready-sleeper = (c : ℕ) (e : Entry) (older younger : List Entry) (h : List Call) (s : State) → s .waiting c ≡ older ++ e ∷ younger → e .asleep ≡ true → met (e .operation) (one-memory (o .memory) h .word (e .word) .state) ≡ true → Promises r o h s → ⊥
 
   pub record False-is-refused : Type 0 where
     pub altered-answer : Altered-answer
