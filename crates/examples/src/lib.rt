@@ -1,4 +1,6 @@
 // The worked examples: the code computes each, and the contract has the result written out.
+#![tactic(auto)]
+
 ghost use Rattle.examples.specs.Worked.{Worked, WordsWorked, ProtocolsWorked};
 
 use protocol::Protocol;

@@ -1,4 +1,6 @@
 // Memories of tagged lines: what a memory means, the chip memory, and memories kept as pictures.
+#![tactic(auto)]
+
 ghost use Rattle.std.specs.Prelude.{◌≡◌, ◌≤◌, List, length, slice_index_or, slice_set};
 ghost use Rattle.tagged.specs.Words.{blank};
 ghost use Rattle.tagged.specs.declared.words.Line.{Line};

@@ -1,4 +1,6 @@
 // Coherence protocols: what a cache may do with its copy of a line, and how copies move.
+#![tactic(auto)]
+
 ghost use Rattle.std.specs.Prelude.{◌≡◌};
 ghost use Rattle.protocol.specs.Rules.{Rules, Lawful};
 

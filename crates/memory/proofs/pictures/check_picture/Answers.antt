@@ -8,6 +8,6 @@ pub returns : goal.returns
 returns c = record {
   cases = search rules;
   same_bytes =
-      picture_back _ _ (λ k. let fits = c.type-inv.bytes k in omega arith) blank (search rules) (search rules)
-      (λ m h. c.loop-place.invariant (state_place c.number-at-count.result m) (omega arith) (omega arith));
+      picture_back _ _ (λ k. let fits = c.type_inv.bytes k in omega arith) blank (search rules) (search rules)
+      (λ m h. c.loop-place.invariant (state_place c.number_at-count.result m) (omega arith) (omega arith));
 }

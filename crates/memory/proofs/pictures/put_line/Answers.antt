@@ -5,23 +5,23 @@ use Rattle.memory.specs.Pictures.{picture, picture_length, PutsLine}
 use Rattle.memory.proofs.Places.{Bytes}
 use Rattle.memory.proofs.Writing.{line_put, line_kept, line_room}
 use Rattle.memory.proofs.pictures.put_line.Goals as goal
-use Rattle.memory.proofs.pictures.put_line.Goals.{else-n-count-via-then-n-count+else-picture-length-buffer, else-n-count-via-else-n-count}
+use Rattle.memory.proofs.pictures.put_line.Goals.{else-n-count-via-then-n-count+else-picture_length-buffer, else-n-count-via-else-n-count}
 
-pub returns-then-picture-length-buffer : goal.returns-then-picture-length-buffer
-returns-then-picture-length-buffer c = record {
-  puts = λ _ _. (c.put-line-at.ensures.puts, c.put-line-at.ensures.proper);
+pub returns-then-picture_length-buffer : goal.returns-then-picture_length-buffer
+returns-then-picture_length-buffer c = record {
+  puts = λ _ _. (c.put_line_at.ensures.puts, c.put_line_at.ensures.proper);
   stays = λ no. absurd (no (search rules, search rules));
-  picture = λ ls more is. line_put ls more _ _ _ _ _ is.0 is.1 c.if-n-count.true c.put-line-at.ensures.puts (λ k. let fits = c.type-inv.buffer k in omega arith);
+  picture = λ ls more is. line_put ls more _ _ _ _ _ is.0 is.1 c.if-n-count.true c.put_line_at.ensures.puts (λ k. let fits = c.type_inv.buffer k in omega arith);
 }
 
 pub returns-else-n-count : goal.returns-else-n-count
 returns-else-n-count c =
     elim c.else-n-count.branch [
-      | else-n-count-via-then-n-count+else-picture-length-buffer w ↦
+      | else-n-count-via-then-n-count+else-picture_length-buffer w ↦
           record {
-            puts = λ a b. absurd (omega (arith, w.if-picture-length-buffer.false, w.picture_length.ensures));
+            puts = λ a b. absurd (omega (arith, w.if-picture_length-buffer.false, w.picture_length.ensures));
             stays = λ _. refl;
-            picture = λ ls more is. absurd (omega (arith, line_room ls more _ c.args.n c.args.line _ c.args.buffer.now is.0 is.1, w.if-picture-length-buffer.false, w.picture_length.ensures));
+            picture = λ ls more is. absurd (omega (arith, line_room ls more _ c.args.n c.args.line _ c.args.buffer.now is.0 is.1, w.if-picture_length-buffer.false, w.picture_length.ensures));
           }
       | else-n-count-via-else-n-count w ↦
           record {

@@ -5,34 +5,34 @@ use Rattle.memory.specs.Pictures.{picture, picture_length, lines_at}
 use Rattle.memory.proofs.Places.{lines_back, picture_sound}
 use Rattle.memory.proofs.Writing.{begun, length_begun, begun_none, begun_more, begun_all, line_room, no_line, behind_picture}
 use Rattle.memory.proofs.pictures.write_picture.Goals as goal
-use Rattle.memory.proofs.pictures.write_picture.Goals.{In-ok-length}
+use Rattle.memory.proofs.pictures.write_picture.Goals.{In_ok-length}
 
 -- starting the picture left the bytes behind it
-kept : (c : In-ok-length) → drop c.in-ok-length.length c.start-picture.new.buffer ≡ drop c.in-ok-length.length c.args.buffer.now
+kept : (c : In_ok-length) → drop c.in_ok-length.length c.start_picture.new.buffer ≡ drop c.in_ok-length.length c.args.buffer.now
 kept c =
-    let told = c.in-ok-length.ensures in
+    let told = c.in_ok-length.ensures in
     behind_picture _ _ _ _ told.2 (told.0 ∙ ap picture_length (sym (length-replicate (length c.args.lines.now) blank)))
 
 pub loop-n-init : goal.loop-n-init
 loop-n-init c =
-    let told = c.in-ok-length.ensures in
+    let told = c.in_ok-length.ensures in
     (told.2 ∙ (λ i. picture (sym (begun_none c.args.lines.now) i) ++ sym (kept c) i), λ m h. absurd (omega arith))
 
 pub loop-n-preserved : goal.loop-n-preserved
 loop-n-preserved c =
     let old = c.loop-n.invariant.0 in
     let count = length_begun c.loop-n.n c.args.lines.now in (
-      c.put-line.ensures.picture _ _ (count, old) ∙ ap (λ ls. picture ls ++ drop c.in-ok-length.length c.start-picture.new.buffer) (begun_more c.loop-n.n c.args.lines.now no_line c.loop-n-test.true),
-      below_more _ _ c.loop-n.invariant.1 (c.put-line.ensures.puts c.loop-n-test.true (line_room _ _ _ c.loop-n.n no_line _ [] count old)).1,
+      c.put_line.ensures.picture _ _ (count, old) ∙ ap (λ ls. picture ls ++ drop c.in_ok-length.length c.start_picture.new.buffer) (begun_more c.loop-n.n c.args.lines.now no_line c.loop-n-test.true),
+      below_more _ _ c.loop-n.invariant.1 (c.put_line.ensures.puts c.loop-n-test.true (line_room _ _ _ c.loop-n.n no_line _ [] count old)).1,
     )
 
 pub returns : goal.returns
 returns c =
-    let told = c.in-ok-length.ensures in
+    let told = c.in_ok-length.ensures in
     let ls = c.args.lines.now in
     let whole = begun_all c.loop-n.n ls c.loop-n-test.false in
     record {
-      cases = (told.0, c.loop-n.invariant.0 ∙ (λ i. picture (whole i) ++ kept (goal.at.returns c).In-ok-length i));
+      cases = (told.0, c.loop-n.invariant.0 ∙ (λ i. picture (whole i) ++ kept (goal.at.returns c).In_ok-length i));
       reads_back = (
         picture_sound ls told.1.some told.1.few,
         ap (lines_at (length ls)) (sym (append-nil (picture ls))) ∙ lines_back ls [] no_line (λ m h. c.loop-n.invariant.1 m (omega arith)),

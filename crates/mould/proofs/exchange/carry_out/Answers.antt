@@ -5,19 +5,19 @@ use Rattle.mould.proofs.exchange.carry_out.Goals as goal
 
 pub loop-face-preserved : goal.loop-face-preserved
 loop-face-preserved c =
-    let handed = c.in-ok-hand-over.ensures in
-    let pushed = c.in-ok-push.ensures.items in
+    let handed = c.in_ok-hand_over.ensures in
+    let pushed = c.in_ok-push.ensures.items in
     (omega arith, handed_more _ _ _ _ _ _ _ _ _ pushed handed.handed handed.numbers c.loop-face-test.true c.loop-face.invariant.1)
 
-pub returns-in-err-hand-over : goal.returns-in-err-hand-over
-returns-in-err-hand-over c =
-    let p = err_from_is_err_and c.from-residual.result c.from-residual.ensures.1 in
-    let told = c.in-err-hand-over.ensures in
+pub returns-in_err-hand_over : goal.returns-in_err-hand_over
+returns-in_err-hand_over c =
+    let p = err_from_is_err_and c.from_residual.result c.from_residual.ensures.1 in
+    let told = c.in_err-hand_over.ensures in
     rw (p.1, p.2) (record { handed = tt; keeps = tt; refused = λ e is. grind arith })
 
-pub returns-in-err-push : goal.returns-in-err-push
-returns-in-err-push c =
-    let p = err_from_is_err_and c.from-residual-in-err-push.result c.from-residual-in-err-push.ensures.1 in
+pub returns-in_err-push : goal.returns-in_err-push
+returns-in_err-push c =
+    let p = err_from_is_err_and c.from_residual-in_err-push.result c.from_residual-in_err-push.ensures.1 in
     rw (p.1, p.2) (record { handed = tt; keeps = tt; refused = λ e is. grind arith })
 
 pub returns : goal.returns

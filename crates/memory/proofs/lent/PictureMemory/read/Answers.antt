@@ -9,7 +9,7 @@ pub returns-then-n-count : goal.returns-then-n-count
 returns-then-n-count c =
     let m = c.args.self.now in
     let n = fitting m.count m.bytes.now in
-    c.line-at.ensures
+    c.line_at.ensures
     ∙ ap (λ k. line_at k m.bytes.now c.args.n) c.fitting-count.ensures.fitting
     ∙ sym (get_or-map-range_with_len (line_at n m.bytes.now) 0 n c.args.n c.args.n blank (omega arith) (omega arith))
 
