@@ -1,11 +1,10 @@
 -- The worked examples, each with its result written out.
 use Rattle.std.specs.Prelude.{◌≡◌, ℕ}
 use Rattle.tagged.specs.declared.answers.Notice.{Notice}
-use Rattle.tagged.specs.declared.answers.Notice.TheVariants.{Nothing, BusSWr, BusSCl}
+use Rattle.tagged.specs.declared.answers.Notice.TheVariants.{Nothing, BusSCl}
 use Rattle.tagged.specs.declared.answers.Outcome.{Outcome}
 use Rattle.tagged.specs.declared.answers.Outcome.TheVariants.{Done, Discarded, Trap}
 use Rattle.tagged.specs.declared.rule.Served.{Served}
-use Rattle.tagged.specs.declared.words.Word.{Word}
 use Rattle.tagged.specs.declared.words.WordState.{WordState}
 use Rattle.tagged.specs.declared.words.WordState.TheVariants.{Empty, Full}
 use Rattle.examples.specs.declared.Examples.{Examples}

@@ -1,5 +1,6 @@
 // Hands the faces of a mould from planner to probe, and prints what was carried out.
 #![tactic(auto)]
+
 use anyhow::anyhow;
 use mould::exchange::carry_out;
 use mould::plan::{MOST_FACES, face_count, first_faces};

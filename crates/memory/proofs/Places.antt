@@ -1,16 +1,15 @@
 -- Where things stand in a picture, and that lines and pictures give each other back.
-use Rattle.std.proofs.Common.{◌≡◌, ℕ, zero, suc, ◌+◌, ◌-◌, ◌*◌, ◌/◌, ◌%◌, ◌^◌, ◌<◌, ◌≤◌, ◌⊎◌, List, [], ◌∷◌, ◌++◌, map, length, get_or, sym, refl, ap, ◌∙◌, inl, inr, ⊎_elim, append-nil, mul-suc, arith}
-use Rattle.std.specs.List.{range_with_len, flat_map}
+use Rattle.std.proofs.Common.{◌≡◌, ℕ, zero, suc, ◌+◌, ◌-◌, ◌*◌, ◌/◌, ◌%◌, ◌^◌, ◌<◌, ◌≤◌, List, [], ◌∷◌, ◌++◌, map, length, get_or, sym, refl, ap, ◌∙◌, ⊎_elim, append-nil, mul-suc, arith}
+use Rattle.std.specs.List.{flat_map}
 use Rattle.std.proofs.lemmas.List.FromFn.{length-map-range_with_len, get_or-map-range_with_len}
 use Rattle.std.proofs.lemmas.List.{get_or_append_left, get_or-append_right, length-append, length-map, get_or-map, ext_get_or, get_or_past}
 use Rattle.std.proofs.lemmas.Bool.{cases_lt}
-use Rattle.tagged.specs.Words.{state_number, blank}
+use Rattle.tagged.specs.Words.{blank}
 use Rattle.tagged.specs.declared.words.Line.{Line}
-use Rattle.tagged.specs.declared.words.WordState.{WordState}
-use Rattle.tagged.specs.declared.words.WordState.TheVariants.{Empty, Full}
+use Rattle.tagged.specs.declared.words.WordState.TheVariants.{Empty}
 use Rattle.memory.proofs.Numbers.{number_of_bytes, bytes_of_number}
-use Rattle.memory.proofs.States.{byte_of, ReadsBack, states_back, byte_back}
-use Rattle.memory.specs.Pictures.{four_bytes, number_at, values_of, state_byte, picture, picture_length, values_from, state_place, state_from, line_at, lines_at, line_count, Proper, Sound}
+use Rattle.memory.proofs.States.{states_back, byte_back}
+use Rattle.memory.specs.Pictures.{four_bytes, number_at, values_of, state_byte, picture, picture_length, values_from, state_place, line_at, lines_at, line_count, Proper, Sound}
 
 -- the pieces of a joined list, where each is of one length
 module _ {X : Type 0} (f : X → List ℕ) (s : ℕ) (each : (x : X) → length (f x) ≡ s) where

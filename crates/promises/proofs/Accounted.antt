@@ -1,9 +1,9 @@
 -- Every run is accounted for.
-use Rattle.std.proofs.Common.{◌≡◌, ℕ, ◌+◌, ◌≤◌, List, [], ◌∷◌, ◌++◌, sym, refl, ap, ◌∙◌, subst, arith}
+use Rattle.std.proofs.Common.{◌≡◌, ℕ, List, [], ◌∷◌, ◌++◌, sym, refl, subst, arith}
 use Rattle.protocol.specs.Rules.{Rules, Lawful}
 use Rattle.promises.specs.Board.{State}
-use Rattle.promises.specs.Calls.{Call, Tally, issue, grant, give_back, snoop, settle, withdraw, evict, drain, look, save, tally}
-use Rattle.promises.specs.Steps.{Agree, Step}
+use Rattle.promises.specs.Calls.{Call, issue, grant, give_back, snoop, settle, withdraw, evict, drain, look, save, tally}
+use Rattle.promises.specs.Steps.{Step}
 use Rattle.promises.specs.Runs.{Opening, opened, Ran, opens, goes_on}
 use Rattle.promises.specs.OneMemory.{one_memory}
 use Rattle.promises.specs.Promises.{times, list_numbers, waiting_numbers, TallyCounts, TallyIsTrue, TalliesAreTrue, Accounted, EveryRunIsAccounted}

@@ -1,15 +1,14 @@
 -- Every accepted request is answered once, withdrawn, or waits; and the tally counts.
-use Rattle.std.proofs.Common.{◌≡◌, ℕ, ◌+◌, ◌<◌, ◌≤◌, Bool, true, false, cond, eqb, ◌⊎◌, List, [], ◌∷◌, ◌++◌, map, length, sym, refl, ap, ◌∙◌, subst, inl, inr, ⊎_elim, arith, length-append}
-use Rattle.std.proofs.lemmas.Bool.{cases_Bool, cases_eq, ne_eqb, cond-false}
+use Rattle.std.proofs.Common.{◌≡◌, ℕ, ◌+◌, ◌≤◌, Bool, false, ◌⊎◌, List, ◌∷◌, ◌++◌, length, refl, ap, ◌∙◌, ⊎_elim, arith, length-append}
 use Rattle.tagged.specs.declared.answers.Outcome.{Outcome}
 use Rattle.tagged.specs.declared.answers.Outcome.TheVariants.{Done, Discarded, Trap, Waits}
-use Rattle.promises.specs.Board.{Entry, State, Counts}
+use Rattle.promises.specs.Board.{State, Counts}
 use Rattle.promises.specs.Calls.{Call}
 use Rattle.promises.specs.Copies.{over_cores}
 use Rattle.promises.specs.Steps.{count_outcome}
 use Rattle.promises.specs.OneMemory.{is_answer}
 use Rattle.promises.specs.Promises.{times, number_if, had_outcome, accepted_by, answered_by, withdrawn_by, over_calls}
-use Rattle.promises.proofs.Counting.{numbers, one, times_cons, times_append}
+use Rattle.promises.proofs.Counting.{numbers, times_append}
 
 -- how many waiting requests have number k
 abbrev pub waits_for : State → ℕ → ℕ

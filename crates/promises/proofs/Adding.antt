@@ -1,6 +1,6 @@
 -- What each call adds to the accounts.
-use Rattle.std.proofs.Common.{◌≡◌, ℕ, ◌+◌, ◌%◌, ◌<◌, ◌≤◌, Bool, true, false, cond, not, ◌&&◌, ◌||◌, eqb, leb, ◌⊎◌, List, [], ◌∷◌, ◌++◌, map, length, is_some, Some, None, Ok, Err, Option, sym, refl, ap, ◌∙◌, subst, inl, inr, ⊎_elim, arith}
-use Rattle.std.proofs.lemmas.Bool.{cases_eq, cases_Bool, eq-eqb, ne_eqb, eqb-true, eqb-false, leb-false, not-true, not-false, not_from_true, not_from_false, and_parts, and_from, and_left, and_right, and_cases, or_cases, both_ways, cond-true, cond-false}
+use Rattle.std.proofs.Common.{◌≡◌, ℕ, ◌+◌, ◌<◌, Bool, true, false, cond, not, ◌&&◌, eqb, List, [], ◌∷◌, ◌++◌, map, length, Some, None, Ok, Option, sym, refl, ap, ◌∙◌, subst, inl, inr, ⊎_elim, arith}
+use Rattle.std.proofs.lemmas.Bool.{cases_eq, cases_Bool, eq-eqb, ne_eqb, leb-false, not-false, and_parts, both_ways, cond-true, cond-false}
 use Rattle.protocol.specs.Rules.{Rules, Lawful}
 use Rattle.tagged.specs.Operations.{class_of, operation_coded}
 use Rattle.tagged.specs.declared.answers.Answer.{Answer}
@@ -9,22 +9,20 @@ use Rattle.tagged.specs.declared.answers.Outcome.{Outcome}
 use Rattle.tagged.specs.declared.answers.Outcome.TheVariants.{Done, Discarded, Trap, Waits}
 use Rattle.tagged.specs.declared.operations.Operation.{Operation}
 use Rattle.tagged.specs.declared.refusals.Refusal.{Refusal}
-use Rattle.tagged.specs.declared.rule.Served.{Served}
 use Rattle.tagged.specs.declared.words.Word.{Word}
 use Rattle.tagged.specs.declared.words.WordState.TheVariants.{Empty}
-use Rattle.promises.specs.Board.{Content, Frame, Entry, Tenure, Found, own_copy, read_in, claimed, unmet, Bus, free, granted, snooped, State, line_of, frame_of}
-use Rattle.promises.specs.Calls.{Stage, to_snoop, to_settle, Slip, SnoopReport, Tally, OrRefused, Call, issue, grant, give_back, snoop, settle, withdraw, evict, drain, look, save, tally}
-use Rattle.promises.specs.Copies.{over_cores, any_core, lowest}
+use Rattle.promises.specs.Board.{Entry, Tenure, Found, own_copy, read_in, claimed, unmet, Bus, free, granted, snooped, State}
+use Rattle.promises.specs.Calls.{to_snoop, to_settle, Slip, SnoopReport, Tally, OrRefused, Call, issue, grant, give_back, snoop, settle, withdraw, evict, drain, look, save, tally}
+use Rattle.promises.specs.Copies.{over_cores, any_core}
 use Rattle.promises.specs.Lists.{any_entry, numbered, without, put_to_sleep, wake, woken}
 use Rattle.promises.specs.Refusing.{first_reason, reply_unless, after_unless, same_stage, of_tenure, bus_at, grant_reasons, slip_reasons, issue_reasons, withdraw_reasons, evict_reasons, drain_reasons}
-use Rattle.promises.specs.Steps.{Agree, Step, updated, answer_undone, answer_served, in_reach, own_met, snoop_met, waits, snoop_state, snoop_on, snoop_to, settle_state, settle_answer, settle_on, settle_to, is_waits, answers_now, issue_served, issue_now, issue_later, issue_answer, issue_refusal, holder, withdrawn_state, count_outcome, count_accepted}
+use Rattle.promises.specs.Steps.{Agree, Step, updated, answer_undone, answer_served, in_reach, own_met, snoop_met, waits, snoop_state, snoop_on, snoop_to, settle_state, settle_answer, settle_on, settle_to, answers_now, issue_served, issue_now, issue_later, issue_refusal, holder, withdrawn_state, count_outcome, count_accepted}
 use Rattle.promises.specs.OneMemory.{TaggedMemory, is_answer}
-use Rattle.promises.specs.Promises.{times, number_if, had_outcome, accepted_by, answered_by, withdrawn_by}
-use Rattle.promises.proofs.Contents.{updated_same, updated_other}
-use Rattle.promises.proofs.Frames.{same_state_as, lowest_passes}
+use Rattle.promises.specs.Promises.{times, number_if, accepted_by, answered_by, withdrawn_by}
+use Rattle.promises.proofs.Frames.{lowest_passes}
 use Rattle.promises.proofs.Entries.{present_numbered}
-use Rattle.promises.proofs.Counting.{Measure, measure_wake, measure_sleep, measure_add, measure_remove, over_updated, over_same, length_measure, times_measure, numbers, one, times_cons}
-use Rattle.promises.proofs.Accounts.{waits_for, wait_count, Accounts, Counted, counted, Adds, accounts_more}
+use Rattle.promises.proofs.Counting.{Measure, measure_wake, measure_sleep, measure_add, measure_remove, over_updated, over_same, length_measure, times_measure, one, times_cons}
+use Rattle.promises.proofs.Accounts.{Accounts, Counted, counted, Adds, accounts_more}
 use Rattle.promises.proofs.OnIssue.{answers}
 use Rattle.promises.proofs.Sound.{WaitsIn, TenureWaits, Sound, cleared, by_reply}
 

@@ -1,17 +1,16 @@
 -- Every run is sound, and so coherent.
-use Rattle.std.proofs.Common.{◌≡◌, ℕ, true, List, [], ◌∷◌, sym, refl, ap, ◌∙◌, subst, arith}
+use Rattle.std.proofs.Common.{List, [], sym, refl, ◌∙◌, subst, arith}
 use Rattle.std.proofs.lemmas.Bool.{both_ways}
 use Rattle.protocol.specs.Rules.{Rules, Lawful}
 use Rattle.promises.specs.Board.{State}
 use Rattle.promises.specs.Calls.{Call, issue, grant, give_back, snoop, settle, withdraw, evict, drain, look, save, tally}
-use Rattle.promises.specs.Copies.{keeps}
 use Rattle.promises.specs.Steps.{Step}
 use Rattle.promises.specs.Runs.{Opening, opened, Ran, opens, goes_on}
-use Rattle.promises.specs.OneMemory.{TaggedMemory, one_memory, feed, line_by_words}
-use Rattle.promises.specs.Promises.{Coherent, EveryRunIsCoherent}
+use Rattle.promises.specs.OneMemory.{TaggedMemory, one_memory, feed}
+use Rattle.promises.specs.Promises.{EveryRunIsCoherent}
 use Rattle.promises.proofs.Contents.{opening_line}
 use Rattle.promises.proofs.Frames.{same_state_as}
-use Rattle.promises.proofs.Copies.{Copies, keeps_empty}
+use Rattle.promises.proofs.Copies.{keeps_empty}
 use Rattle.promises.proofs.Sound.{Sound}
 use Rattle.promises.proofs.OnBus.{grant_sound, give_back_sound, withdraw_sound, look_sound, save_sound, tally_sound}
 use Rattle.promises.proofs.OnEvict.{evict_sound, drain_sound}

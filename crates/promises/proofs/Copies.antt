@@ -1,16 +1,16 @@
 -- Copies and memory hold the one tagged memory's lines: what calls that do not serve a word keep of that.
-use Rattle.std.proofs.Common.{◌≡◌, ℕ, ◌%◌, ◌<◌, Bool, true, false, cond, not, ◌&&◌, ◌||◌, eqb, ltb, ◌⊎◌, sym, refl, ap, ◌∙◌, subst, inl, inr, ⊎_elim, arith}
-use Rattle.std.proofs.lemmas.Bool.{cases_eq, cases_Bool, eq-eqb, ne_eqb, eqb-true, and_parts, and_from, and_left, and_right, and_cases, both_ways, cond-true, cond-false}
+use Rattle.std.proofs.Common.{◌≡◌, ℕ, ◌%◌, ◌<◌, Bool, true, false, ◌&&◌, eqb, ◌⊎◌, sym, refl, ap, ◌∙◌, inl, inr, ⊎_elim, arith}
+use Rattle.std.proofs.lemmas.Bool.{cases_eq, cases_Bool, and_parts, and_left, and_right, both_ways, cond-true, cond-false}
 use Rattle.protocol.specs.Rules.{Rules, Lawful}
 use Rattle.tagged.specs.declared.words.Word.{Word}
-use Rattle.promises.specs.Board.{Content, Frame, Entry, Tenure, Found, own_copy, read_in, claimed, unmet, Bus, free, granted, snooped, State, line_of, frame_of}
+use Rattle.promises.specs.Board.{Content, Frame, own_copy, read_in, claimed, unmet, Bus, free, granted, snooped, State, line_of, frame_of}
 use Rattle.promises.specs.Copies.{copy, keeps, owns, owes, lowest, any_core}
-use Rattle.promises.specs.Refusing.{is_free, bus_on_line}
-use Rattle.promises.specs.Steps.{updated, updated_frame, dropped, evicted_state, drained_state}
+use Rattle.promises.specs.Refusing.{is_free}
+use Rattle.promises.specs.Steps.{updated, dropped, evicted_state, drained_state}
 use Rattle.promises.specs.OneMemory.{line_by_words}
 use Rattle.promises.specs.Promises.{WritersAreAlone}
 use Rattle.promises.proofs.Contents.{updated_same, updated_other}
-use Rattle.promises.proofs.Frames.{Kept, kept_of, keeps_by, keeps_same, frame_cases, lowest_passes, none_passes}
+use Rattle.promises.proofs.Frames.{kept_of, keeps_same, frame_cases, lowest_passes, none_passes}
 
 -- line n travels on the bus to be claimed
 abbrev pub claiming : Bus → ℕ → Bool

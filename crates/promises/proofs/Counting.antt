@@ -1,15 +1,13 @@
 -- Counts over the lists of waiting requests, by what each call adds and removes.
-use Rattle.std.proofs.Common.{◌≡◌, ℕ, zero, suc, ◌+◌, ◌<◌, ◌≤◌, Bool, true, false, cond, eqb, ◌⊎◌, List, [], ◌∷◌, ◌++◌, map, length, count_by, sym, refl, ap, ◌∙◌, subst, inl, inr, ⊎_elim, arith, length-append}
-use lib.ListN.{length-map}
-use Rattle.std.proofs.lemmas.Bool.{cases_Bool, cases_eq, eq-eqb, ne_eqb, eqb-true, both_ways, or_cases, cond-true, cond-false}
+use Rattle.std.proofs.Common.{◌≡◌, ℕ, zero, suc, ◌+◌, ◌<◌, true, false, cond, eqb, List, [], ◌∷◌, ◌++◌, map, length, sym, refl, ap, ◌∙◌, ⊎_elim, arith}
+use Rattle.std.proofs.lemmas.Bool.{cases_Bool, eqb-true, both_ways, or_cases, cond-true, cond-false}
 use Rattle.std.proofs.lemmas.List.Sums.{sum_by-cons, sum_by-append}
 use Rattle.tagged.specs.declared.answers.Notice.{Notice}
-use Rattle.promises.specs.Board.{Entry, State}
+use Rattle.promises.specs.Board.{Entry}
 use Rattle.promises.specs.Copies.{over_cores}
 use Rattle.promises.specs.Lists.{any_entry, numbered, without, set_asleep, put_to_sleep, wake}
 use Rattle.promises.specs.Steps.{updated}
 use Rattle.promises.specs.Promises.{times}
-use Rattle.promises.proofs.Contents.{updated_same, updated_other}
 use Rattle.promises.proofs.Entries.{wake_cases}
 
 -- a count over a list to which each entry adds by its number alone

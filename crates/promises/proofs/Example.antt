@@ -1,11 +1,11 @@
 -- The example is a run: each answer is what the step computes.
-use Rattle.std.proofs.Common.{◌≡◌, ℕ, List, [], ◌∷◌, refl}
+use Rattle.std.proofs.Common.{ℕ, refl}
 use Rattle.promises.specs.Board.{State, word_in, with_word_in}
-use Rattle.promises.specs.Calls.{Call, Slip, to_snoop, to_settle}
+use Rattle.promises.specs.Calls.{Slip, to_snoop, to_settle}
 use Rattle.promises.specs.Copies.{keeps, stands}
 use Rattle.promises.specs.Steps.{Agree, issue_after, grant_after, snoop_after, settle_after}
-use Rattle.promises.specs.Runs.{Ran, opens, goes_on, opened}
-use Rattle.promises.specs.Example.{example_rules, example_opening, example_history, ExampleIsARun}
+use Rattle.promises.specs.Runs.{opens, goes_on, opened}
+use Rattle.promises.specs.Example.{example_rules, example_opening, ExampleIsARun}
 
 agrees : (s : State) → Agree s s
 agrees s = record { setup = refl; next = refl; counts = refl; frame = λ c i. refl; waiting = λ c. refl; bus = refl; memory = λ n. refl }

@@ -1,9 +1,9 @@
 -- Which copies a change of frames leaves as they were.
-use Rattle.std.proofs.Common.{◌≡◌, ℕ, zero, suc, ◌%◌, ◌<◌, Bool, true, false, cond, not, ◌&&◌, ◌||◌, eqb, ltb, ◌⊎◌, sym, refl, ap, ◌∙◌, subst, inl, inr, ⊎_elim, arith}
+use Rattle.std.proofs.Common.{◌≡◌, ℕ, zero, suc, ◌<◌, Bool, true, false, cond, ◌&&◌, ◌||◌, eqb, ltb, ◌⊎◌, refl, ap, ◌∙◌, inl, inr, ⊎_elim, arith}
 use Rattle.std.proofs.lemmas.Bool.{cases_eq, cases_Bool, eq-eqb, ne_eqb, eqb-true, ltb-true, lt-ltb, and_parts, and_from, and_left, and_right, or_cases, or_left, or_right, both_ways, cond-true, cond-false}
-use Rattle.protocol.specs.Rules.{Rules, Lawful}
-use Rattle.promises.specs.Board.{Content, Frame, Bus, State, frame_of}
-use Rattle.promises.specs.Copies.{copy, keeps, owns, owes, lowest, any_core}
+use Rattle.protocol.specs.Rules.{Rules}
+use Rattle.promises.specs.Board.{Frame, State}
+use Rattle.promises.specs.Copies.{copy, keeps, lowest, any_core}
 use Rattle.promises.specs.Steps.{Agree, updated_frame}
 
 -- states that agree place by place are equal

@@ -1,14 +1,14 @@
 -- A word of a kept copy is changed where it stands: by an issue that answers, or by a settle of kind 0.
-use Rattle.std.proofs.Common.{◌≡◌, ℕ, ◌%◌, ◌<◌, Bool, true, false, cond, not, ◌&&◌, ◌||◌, eqb, ◌⊎◌, sym, refl, ap, ◌∙◌, subst, inl, inr, ⊎_elim, arith}
-use Rattle.std.proofs.lemmas.Bool.{cases_eq, cases_Bool, eq-eqb, ne_eqb, and_parts, and_from, and_left, and_right, both_ways, cond-true, cond-false}
+use Rattle.std.proofs.Common.{◌≡◌, ℕ, ◌%◌, ◌<◌, Bool, true, false, cond, ◌&&◌, sym, refl, ap, ◌∙◌, ⊎_elim}
+use Rattle.std.proofs.lemmas.Bool.{cases_eq, cases_Bool, eq-eqb, ne_eqb, and_from, and_left, and_right, both_ways, cond-true, cond-false}
 use Rattle.protocol.specs.Rules.{Rules, Lawful}
 use Rattle.tagged.specs.declared.words.Word.{Word}
-use Rattle.promises.specs.Board.{Content, word_in, with_word_in, Frame, Bus, State, line_of, frame_of}
-use Rattle.promises.specs.Copies.{copy, keeps, owns, owes}
+use Rattle.promises.specs.Board.{Content, word_in, with_word_in, Frame, State, line_of, frame_of}
+use Rattle.promises.specs.Copies.{copy, keeps, owes}
 use Rattle.promises.specs.Steps.{updated_frame}
 use Rattle.promises.specs.OneMemory.{line_by_words}
 use Rattle.promises.proofs.Contents.{changed, changed_content, changed_other, unchanged_line}
-use Rattle.promises.proofs.Frames.{Kept, kept_of, keeps_by}
+use Rattle.promises.proofs.Frames.{kept_of, keeps_by}
 use Rattle.promises.proofs.Copies.{claiming, Copies, one_line, owes_same}
 use Rattle.promises.proofs.Putting.{Put, put_copies}
 

@@ -1,5 +1,5 @@
 -- Every run keeps every promise.
-use Rattle.std.proofs.Common.{List, ◌∷◌}
+use Rattle.std.proofs.Common.{◌∷◌}
 use Rattle.promises.specs.Promises.{EveryRunKeepsItsPromises, OneMoreStepKeepsThePromises}
 use Rattle.promises.specs.Runs.{goes_on}
 use Rattle.promises.proofs.Coherent.{coherent}

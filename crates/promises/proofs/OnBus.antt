@@ -1,21 +1,20 @@
 -- Calls that leave frames and memory: grant, give_back, withdraw, look, save, tally.
-use Rattle.std.proofs.Common.{◌≡◌, ℕ, ◌+◌, ◌%◌, ◌<◌, ◌≤◌, Bool, true, false, cond, not, ◌&&◌, ◌||◌, eqb, leb, ◌⊎◌, List, [], ◌∷◌, ◌++◌, map, is_some, Some, None, Ok, Err, Option, sym, refl, ap, ◌∙◌, subst, inl, inr, ⊎_elim, arith}
-use Rattle.std.proofs.lemmas.Bool.{cases_eq, cases_Bool, eq-eqb, ne_eqb, eqb-true, eqb-false, leb-false, not-true, not-false, not_from_true, not_from_false, and_parts, and_from, and_left, and_right, and_cases, or_cases, both_ways, cond-true, cond-false}
-use Rattle.protocol.specs.Rules.{Rules, Lawful}
+use Rattle.std.proofs.Common.{◌≡◌, ℕ, ◌<◌, true, false, eqb, List, [], is_some, Some, None, Option, sym, refl, ap, ◌∙◌, subst, ⊎_elim, arith}
+use Rattle.std.proofs.lemmas.Bool.{cases_eq, eqb-false, leb-false, not-false, and_parts, both_ways}
+use Rattle.protocol.specs.Rules.{Rules}
 use Rattle.tagged.specs.declared.words.Word.{Word}
-use Rattle.promises.specs.Board.{Content, Frame, Entry, Tenure, Found, own_copy, read_in, claimed, unmet, Bus, free, granted, snooped, State, line_of, frame_of}
-use Rattle.promises.specs.Calls.{Stage, to_snoop, to_settle, Slip, OrRefused, Tally, grant, give_back, withdraw, look, save, tally}
-use Rattle.promises.specs.Copies.{copy, keeps, lowest}
-use Rattle.promises.specs.Lists.{any_entry, numbered, without, oldest_ready}
+use Rattle.promises.specs.Board.{Frame, Entry, Tenure, Bus, free, granted, snooped, State}
+use Rattle.promises.specs.Calls.{to_snoop, Slip, OrRefused, Tally, grant, give_back, withdraw, look, save, tally}
+use Rattle.promises.specs.Lists.{numbered, without, oldest_ready}
 use Rattle.promises.specs.Refusing.{first_reason, same_stage, is_free, has_bus, bus_at, of_tenure, grant_reasons, slip_reasons, withdraw_reasons}
-use Rattle.promises.specs.Steps.{Agree, Step, updated, with_bus, grant_bus, holder, withdrawn_state}
+use Rattle.promises.specs.Steps.{Step, updated, with_bus, grant_bus, holder, withdrawn_state}
 use Rattle.promises.specs.OneMemory.{TaggedMemory, feed}
 use Rattle.promises.specs.Promises.{EveryEntry}
 use Rattle.promises.proofs.Contents.{updated_same, updated_other}
 use Rattle.promises.proofs.Frames.{keeps_same, same_state_as}
-use Rattle.promises.proofs.Copies.{claiming, Copies}
+use Rattle.promises.proofs.Copies.{claiming}
 use Rattle.promises.proofs.Entries.{Present, ready_present, present_without, every_without}
-use Rattle.promises.proofs.Tenures.{Like, found_like, BusTrue}
+use Rattle.promises.proofs.Tenures.{found_like, BusTrue}
 use Rattle.promises.proofs.Sleeping.{SleepsRight}
 use Rattle.promises.proofs.Sound.{Noted, WaitsIn, TenureWaits, Sound, same_frames, cleared, step_sound}
 

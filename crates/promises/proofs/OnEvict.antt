@@ -1,16 +1,15 @@
 -- Evict and drain.
-use Rattle.std.proofs.Common.{◌≡◌, ℕ, ◌+◌, ◌%◌, ◌<◌, ◌≤◌, Bool, true, false, cond, not, ◌&&◌, ◌||◌, eqb, leb, ◌⊎◌, List, [], ◌∷◌, ◌++◌, map, is_some, Some, None, Ok, Err, Option, sym, refl, ap, ◌∙◌, subst, inl, inr, ⊎_elim, arith}
-use Rattle.std.proofs.lemmas.Bool.{cases_eq, cases_Bool, eq-eqb, ne_eqb, eqb-true, eqb-false, leb-false, not-true, not-false, not_from_true, not_from_false, and_parts, and_from, and_left, and_right, and_cases, or_cases, both_ways, cond-true, cond-false}
+use Rattle.std.proofs.Common.{◌≡◌, ℕ, ◌%◌, true, false, ◌⊎◌, sym, refl, ap, ◌∙◌, ⊎_elim}
+use Rattle.std.proofs.lemmas.Bool.{cases_Bool, eqb-false, not-false, both_ways}
 use Rattle.protocol.specs.Rules.{Rules, Lawful}
-use Rattle.tagged.specs.declared.words.Word.{Word}
-use Rattle.promises.specs.Board.{Content, Frame, Entry, Tenure, Found, own_copy, read_in, claimed, unmet, Bus, free, granted, snooped, State, line_of, frame_of}
+use Rattle.promises.specs.Board.{Frame, Bus, free, granted, snooped, State, line_of, frame_of}
 use Rattle.promises.specs.Calls.{OrRefused, evict, drain}
 use Rattle.promises.specs.Copies.{copy, keeps}
 use Rattle.promises.specs.Refusing.{first_reason, is_free, bus_on_line, evict_reasons, drain_reasons}
-use Rattle.promises.specs.Steps.{Agree, Step, dropped, evicted_state, drained_state}
+use Rattle.promises.specs.Steps.{Step, dropped, evicted_state, drained_state}
 use Rattle.promises.specs.OneMemory.{TaggedMemory, feed}
-use Rattle.promises.proofs.Frames.{kept_of, keeps_same, frame_cases}
-use Rattle.promises.proofs.Copies.{Copies, keeps_empty, one_line, evict_copies, drain_copies}
+use Rattle.promises.proofs.Frames.{keeps_same, frame_cases}
+use Rattle.promises.proofs.Copies.{keeps_empty, one_line, evict_copies, drain_copies}
 use Rattle.promises.proofs.Tenures.{Like, found_like, BusTrue}
 use Rattle.promises.proofs.Sound.{Sound, TenureWaits, cleared, step_sound}
 

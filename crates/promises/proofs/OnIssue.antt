@@ -1,39 +1,37 @@
 -- Issue.
-use Rattle.std.proofs.Common.{◌≡◌, ℕ, ◌+◌, ◌*◌, ◌%◌, ◌<◌, ◌≤◌, Bool, true, false, cond, not, ◌&&◌, ◌||◌, eqb, leb, ◌⊎◌, List, [], ◌∷◌, ◌++◌, map, is_some, Some, None, Ok, Err, Option, sym, refl, ap, ◌∙◌, subst, inl, inr, ⊎_elim, arith}
-use Rattle.std.proofs.lemmas.Bool.{cases_eq, cases_Bool, eq-eqb, ne_eqb, eqb-true, eqb-false, leb-false, not-true, not-false, not_from_true, not_from_false, and_parts, and_from, and_left, and_right, and_cases, or_cases, both_ways, cond-true, cond-false}
+use Rattle.std.proofs.Common.{◌≡◌, ℕ, ◌+◌, ◌*◌, ◌%◌, ◌<◌, Bool, true, false, cond, not, ◌&&◌, ◌⊎◌, Some, Ok, sym, refl, ap, ◌∙◌, subst, ⊎_elim, arith}
+use Rattle.std.proofs.lemmas.Bool.{cases_eq, cases_Bool, leb-false, not-true, not_from_true, and_parts, and_from, and_cases, or_cases, both_ways, cond-true, cond-false}
 use Rattle.protocol.specs.Rules.{Rules, Lawful}
 use Rattle.tagged.specs.declared.answers.Answer.{Answer}
-use Rattle.tagged.specs.declared.answers.Notice.{Notice}
-use Rattle.tagged.specs.declared.answers.Outcome.{Outcome}
 use Rattle.tagged.specs.declared.operations.Operation.{Operation}
 use Rattle.tagged.specs.declared.rule.Served.{Served}
 use Rattle.tagged.specs.declared.words.Word.{Word}
-use Rattle.promises.specs.Board.{Content, Frame, Entry, Tenure, Found, own_copy, read_in, claimed, unmet, Bus, free, granted, snooped, State, line_of, frame_of}
-use Rattle.tagged.specs.Rule.{met, rule, done_by}
+use Rattle.promises.specs.Board.{Frame, Entry, Tenure, Found, own_copy, read_in, claimed, unmet, Bus, free, granted, snooped, State, line_of, frame_of}
+use Rattle.tagged.specs.Rule.{met, rule}
 use Rattle.tagged.specs.Operations.{claims, class_of, operation_coded}
-use Rattle.tagged.specs.Rule.{unmet_by, unmet_outcome}
+use Rattle.tagged.specs.Rule.{unmet_outcome}
 use Rattle.tagged.specs.declared.operations.Class.{Class}
 use Rattle.tagged.specs.declared.operations.Class.TheVariants.{Unconditional, Waiting, NonFaulting, Trapping}
 use Rattle.promises.specs.Board.{word_in, with_word_in, served_lines}
 use Rattle.promises.specs.Calls.{OrRefused, issue}
 use Rattle.promises.specs.Copies.{copy, keeps, owns}
 use Rattle.promises.specs.Lists.{on_word, any_entry, wake}
-use Rattle.promises.specs.Refusing.{first_reason, issue_reasons, reply_unless}
-use Rattle.promises.specs.Steps.{Agree, Step, updated, updated_frame, gives_up, own, own_word, own_met, in_reach, answers_now, issue_served, issue_now, issue_later, issue_answer, issue_refusal}
-use Rattle.promises.specs.OneMemory.{Note, TaggedMemory, note, serve_noted, decide, is_answer, feed, line_by_words}
+use Rattle.promises.specs.Refusing.{issue_reasons}
+use Rattle.promises.specs.Steps.{Step, updated, gives_up, own_word, own_met, in_reach, answers_now, issue_served, issue_now, issue_later, issue_answer, issue_refusal}
+use Rattle.promises.specs.OneMemory.{TaggedMemory, note, serve_noted, decide, is_answer, feed, line_by_words}
 use Rattle.promises.specs.Promises.{EveryEntry}
-use Rattle.promises.proofs.Contents.{updated_same, updated_other, updated_back, line_word, changed, changed_other, unchanged_line}
-use Rattle.promises.proofs.Frames.{Kept, kept_of, keeps_by, keeps_same, frame_cases, same_state_as}
-use Rattle.promises.proofs.Copies.{claiming, Copies, one_line}
+use Rattle.promises.proofs.Contents.{updated_same, updated_other, updated_back, line_word, changed, changed_other}
+use Rattle.promises.proofs.Frames.{kept_of, keeps_by, keeps_same, frame_cases}
+use Rattle.promises.proofs.Copies.{Copies, one_line}
 use Rattle.promises.proofs.Entries.{Present, present_wake, present_append, present_on_word, every_map, every_append, every_weaker}
 use Rattle.promises.proofs.InPlace.{changed_in_place}
-use Rattle.promises.proofs.Tenures.{Hits, Reads, Claims, Met, Like, found_like, FoundTrue, BusTrue}
+use Rattle.promises.proofs.Tenures.{Like, found_like, FoundTrue, BusTrue}
 use Rattle.promises.proofs.Settling.{unclaimed_word}
 use Rattle.promises.proofs.OnBus.{bus_kept}
 use Rattle.promises.proofs.OnSettle.{noted_wake}
 use Rattle.promises.proofs.OnSnoop.{unmet_word}
 use Rattle.promises.proofs.Sleeping.{SleepsRight, woken_right, rule_tells}
-use Rattle.promises.proofs.Sound.{note_of, Noted, OnALine, WaitsIn, TenureWaits, Sound, same_frames, cleared, step_sound}
+use Rattle.promises.proofs.Sound.{Noted, OnALine, WaitsIn, TenureWaits, Sound, same_frames, cleared, step_sound}
 
 -- an operation that is unmet, or no claim, leaves the word
 pub rule_stays : (o : Operation) (x : Word) (v : ℕ) → (met o x.state && claims o) ≡ false → (rule o x v).word ≡ x

@@ -1,31 +1,26 @@
 -- Settle.
-use Rattle.std.proofs.Common.{◌≡◌, ℕ, ◌+◌, ◌%◌, ◌<◌, ◌≤◌, Bool, true, false, cond, not, ◌&&◌, ◌||◌, eqb, leb, ◌⊎◌, List, [], ◌∷◌, ◌++◌, map, is_some, Some, None, Ok, Err, Option, sym, refl, ap, ◌∙◌, subst, inl, inr, ⊎_elim, arith}
-use Rattle.std.proofs.lemmas.Bool.{cases_eq, cases_Bool, eq-eqb, ne_eqb, eqb-true, eqb-false, leb-false, not-true, not-false, not_from_true, not_from_false, and_parts, and_from, and_left, and_right, and_cases, or_cases, both_ways, cond-true, cond-false}
+use Rattle.std.proofs.Common.{◌≡◌, ℕ, ◌<◌, ◌≤◌, true, false, eqb, List, [], ◌∷◌, map, Some, None, Ok, sym, refl, ap, ◌∙◌, subst, ⊎_elim}
+use Rattle.std.proofs.lemmas.Bool.{cases_eq, cases_Bool, not-false, and_parts, both_ways, cond-true, cond-false}
 use Rattle.protocol.specs.Rules.{Rules, Lawful}
 use Rattle.tagged.specs.declared.answers.Answer.{Answer}
 use Rattle.tagged.specs.declared.answers.Notice.{Notice}
-use Rattle.tagged.specs.declared.answers.Outcome.{Outcome}
-use Rattle.tagged.specs.declared.operations.Operation.{Operation}
 use Rattle.tagged.specs.declared.rule.Served.{Served}
-use Rattle.tagged.specs.declared.words.Word.{Word}
-use Rattle.promises.specs.Board.{Content, Frame, Entry, Tenure, Found, own_copy, read_in, claimed, unmet, Bus, free, granted, snooped, State, line_of, frame_of}
-use Rattle.tagged.specs.Rule.{met, rule, done_by}
+use Rattle.promises.specs.Board.{Content, Entry, Tenure, Found, own_copy, read_in, claimed, unmet, Bus, free, granted, snooped, State, line_of}
+use Rattle.tagged.specs.Rule.{met, done_by}
 use Rattle.promises.specs.Board.{word_in}
-use Rattle.promises.specs.Calls.{Stage, to_snoop, to_settle, Slip, OrRefused, settle}
-use Rattle.promises.specs.Copies.{copy, keeps}
-use Rattle.promises.specs.Lists.{numbered, without, wake}
-use Rattle.promises.specs.Refusing.{first_reason, same_stage, bus_at, of_tenure, slip_reasons, reply_unless}
+use Rattle.promises.specs.Calls.{to_settle, Slip, OrRefused, settle}
+use Rattle.promises.specs.Lists.{without, wake}
+use Rattle.promises.specs.Refusing.{first_reason, same_stage, bus_at, of_tenure, slip_reasons}
 use Rattle.promises.specs.Steps.{Agree, Step, updated, is_waits, settle_state, settle_answer, settle_on, settle_to}
-use Rattle.promises.specs.OneMemory.{Note, TaggedMemory, serve_noted, decide, is_done, feed, line_by_words}
+use Rattle.promises.specs.OneMemory.{TaggedMemory, serve_noted, decide, is_done, feed, line_by_words}
 use Rattle.promises.specs.Promises.{EveryEntry}
 use Rattle.promises.proofs.Contents.{updated_same, updated_other, line_word}
 use Rattle.promises.proofs.Sleeping.{SleepsRight, woken_right}
-use Rattle.promises.proofs.Frames.{same_state_as}
 use Rattle.promises.proofs.Copies.{claiming, Copies}
 use Rattle.promises.proofs.Entries.{wake_cases, every_map, every_without}
 use Rattle.promises.proofs.Tenures.{Met, FoundTrue, BusTrue}
 use Rattle.promises.proofs.Settling.{served, settle_hit, settle_read, settle_claim}
-use Rattle.promises.proofs.Sound.{Noted, OnALine, WaitsIn, TenureWaits, Sound, same_frames, same_memory, tenure_noted, cleared, step_sound, refused_sound}
+use Rattle.promises.proofs.Sound.{Noted, OnALine, WaitsIn, TenureWaits, Sound, same_frames, tenure_noted, cleared, step_sound, refused_sound}
 
 -- a note stays true of a request that wakes
 pub noted_wake : (m : TaggedMemory) (next c : ℕ) (n : Notice) (w : ℕ) (e : Entry) → Noted m next c e → Noted m next c (wake n w e)

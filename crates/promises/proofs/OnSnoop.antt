@@ -1,26 +1,24 @@
 -- Snoop.
-use Rattle.std.proofs.Common.{◌≡◌, ℕ, ◌+◌, ◌%◌, ◌<◌, ◌≤◌, Bool, true, false, cond, not, ◌&&◌, ◌||◌, eqb, leb, ◌⊎◌, List, [], ◌∷◌, ◌++◌, map, is_some, Some, None, Ok, Err, Option, sym, refl, ap, ◌∙◌, subst, inl, inr, ⊎_elim, arith}
-use Rattle.std.proofs.lemmas.Bool.{cases_eq, cases_Bool, eq-eqb, ne_eqb, eqb-true, eqb-false, leb-false, not-true, not-false, not_from_true, not_from_false, and_parts, and_from, and_left, and_right, and_cases, or_cases, both_ways, cond-true, cond-false}
+use Rattle.std.proofs.Common.{◌≡◌, ℕ, true, false, not, ◌&&◌, eqb, List, Some, None, Ok, sym, refl, ap, ◌∙◌, subst, ⊎_elim}
+use Rattle.std.proofs.lemmas.Bool.{cases_eq, cases_Bool, eqb-true, not-true, not-false, and_parts, both_ways, cond-true, cond-false}
 use Rattle.protocol.specs.Rules.{Rules, Lawful}
 use Rattle.tagged.specs.declared.operations.Operation.{Operation}
 use Rattle.tagged.specs.declared.rule.Served.{Served}
 use Rattle.tagged.specs.declared.words.Word.{Word}
-use Rattle.promises.specs.Board.{Content, Frame, Entry, Tenure, Found, own_copy, read_in, claimed, unmet, Bus, free, granted, snooped, State, line_of, frame_of}
+use Rattle.promises.specs.Board.{Entry, Tenure, Bus, free, granted, snooped, State}
 use Rattle.tagged.specs.Operations.{claims, class_of}
 use Rattle.tagged.specs.Rule.{met, rule}
-use Rattle.promises.specs.Calls.{Stage, to_snoop, to_settle, Slip, SnoopReport, OrRefused, snoop}
-use Rattle.promises.specs.Copies.{copy, keeps}
-use Rattle.promises.specs.Lists.{numbered, put_to_sleep, set_asleep}
-use Rattle.promises.specs.Refusing.{first_reason, same_stage, bus_at, of_tenure, slip_reasons, reply_unless}
-use Rattle.promises.specs.Steps.{Agree, Step, updated, waits, own_suffices, snoop_met, snoop_kind, snoop_report, snoop_found, snoop_state, snoop_on, snoop_to}
+use Rattle.promises.specs.Calls.{to_snoop, to_settle, Slip, SnoopReport, OrRefused, snoop}
+use Rattle.promises.specs.Lists.{put_to_sleep}
+use Rattle.promises.specs.Refusing.{first_reason, same_stage, bus_at, of_tenure, slip_reasons}
+use Rattle.promises.specs.Steps.{Agree, Step, updated, waits, own_suffices, snoop_met, snoop_kind, snoop_report, snoop_state, snoop_on, snoop_to}
 use Rattle.promises.specs.OneMemory.{Note, TaggedMemory, serve_noted, decide, noted_gives_up, feed}
 use Rattle.promises.specs.Promises.{EveryEntry}
 use Rattle.promises.proofs.Contents.{updated_same, updated_other, updated_back}
-use Rattle.promises.proofs.Frames.{same_state_as}
-use Rattle.promises.proofs.Copies.{claiming, Copies}
+use Rattle.promises.proofs.Copies.{claiming}
 use Rattle.promises.proofs.Entries.{Present, present_sleep, every_sleep, every_both, every_weaker}
 use Rattle.promises.proofs.Sleeping.{SleepsRight}
-use Rattle.promises.proofs.Tenures.{BusTrue, travels_true, snoop_finds, snoop_not_met}
+use Rattle.promises.proofs.Tenures.{travels_true, snoop_finds, snoop_not_met}
 use Rattle.promises.proofs.Snooping.{snoop_copies}
 use Rattle.promises.proofs.Sound.{note_of, Noted, WaitsIn, TenureWaits, Sound, same_memory, tenure_noted, cleared, step_sound, refused_sound}
 

@@ -1,8 +1,8 @@
 -- A step leaves nothing open.
-use Rattle.std.proofs.Common.{◌≡◌, ℕ, List, sym, ◌∙◌}
+use Rattle.std.proofs.Common.{◌≡◌, sym, ◌∙◌}
 use Rattle.promises.specs.Board.{State}
 use Rattle.promises.specs.Steps.{Agree}
-use Rattle.promises.specs.Runs.{NothingOpen, StepsLeaveNothingOpen}
+use Rattle.promises.specs.Runs.{StepsLeaveNothingOpen}
 
 -- two states that agree with a third agree with each other
 pub agree_with : {t u x : State} → Agree t x → Agree u x → Agree t u

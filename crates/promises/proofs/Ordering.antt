@@ -4,7 +4,7 @@ use Rattle.std.proofs.lemmas.Bool.{cases_eq}
 use Rattle.promises.specs.Board.{Entry, Tenure, Bus, free, granted, snooped, State}
 use Rattle.promises.specs.OneMemory.{Note, TaggedMemory}
 use Rattle.promises.specs.Promises.{times, SamePlace, InIssueOrder, IsDecidedOnce}
-use Rattle.promises.proofs.Counting.{one, times_cons}
+use Rattle.promises.proofs.Counting.{times_cons}
 use Rattle.promises.proofs.Entries.{every_weaker, every_both, every_present}
 use Rattle.promises.proofs.Rising.{Rising, Each, Within}
 use Rattle.promises.proofs.Sound.{note_of, Noted, WaitsIn}

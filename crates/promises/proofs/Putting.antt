@@ -1,15 +1,15 @@
 -- A line is put into a frame, perhaps with a changed word.
-use Rattle.std.proofs.Common.{◌≡◌, ℕ, ◌%◌, ◌<◌, Bool, true, false, cond, not, ◌&&◌, ◌||◌, ◌⊎◌, sym, refl, ap, ◌∙◌, subst, inl, inr, ⊎_elim, arith}
-use Rattle.std.proofs.lemmas.Bool.{cases_eq, cases_Bool, and_parts, and_from, and_left, both_ways}
-use Rattle.protocol.specs.Rules.{Rules, Lawful}
+use Rattle.std.proofs.Common.{◌≡◌, ℕ, ◌%◌, ◌<◌, true, false, ◌⊎◌, sym, ap, ◌∙◌, subst, inl, inr, ⊎_elim}
+use Rattle.std.proofs.lemmas.Bool.{cases_eq, and_parts}
+use Rattle.protocol.specs.Rules.{Rules}
 use Rattle.tagged.specs.declared.words.Word.{Word}
-use Rattle.promises.specs.Board.{Content, Frame, Bus, State, frame_of}
+use Rattle.promises.specs.Board.{Content, Frame, State, frame_of}
 use Rattle.promises.specs.Copies.{copy, keeps, owns, owes}
 use Rattle.promises.specs.Steps.{updated_frame}
 use Rattle.promises.specs.OneMemory.{line_by_words}
 use Rattle.promises.specs.Promises.{WritersAreAlone}
-use Rattle.promises.proofs.Frames.{Kept, kept_of, keeps_by, keeps_same, frame_cases}
-use Rattle.promises.proofs.Copies.{claiming, Copies, one_line, owes_same, owns_same}
+use Rattle.promises.proofs.Frames.{kept_of, keeps_same, frame_cases}
+use Rattle.promises.proofs.Copies.{claiming, Copies, owns_same}
 
 -- core c's frame for line n now holds it with this code and content; T' are the words afterwards
 pub record Put (r : Rules) (T T' : ℕ → Word) (s : State) (c n code : ℕ) (content : Content) (after : State) : Type 0 where

@@ -1,20 +1,20 @@
 -- A settle keeps copies and memory true; the one tagged memory serves the word at the same time.
-use Rattle.std.proofs.Common.{◌≡◌, ℕ, ◌%◌, ◌<◌, Bool, true, false, cond, not, ◌&&◌, ◌||◌, eqb, ltb, ◌⊎◌, sym, refl, ap, ◌∙◌, subst, inl, inr, ⊎_elim, arith}
-use Rattle.std.proofs.lemmas.Bool.{cases_eq, cases_Bool, eq-eqb, ne_eqb, eqb-true, not-true, not_from_true, not_from_false, and_parts, and_from, and_left, and_right, both_ways, cond-true, cond-false}
+use Rattle.std.proofs.Common.{◌≡◌, ℕ, ◌%◌, ◌<◌, Bool, true, false, cond, not, eqb, sym, refl, ap, ◌∙◌, ⊎_elim}
+use Rattle.std.proofs.lemmas.Bool.{cases_eq, cases_Bool, eq-eqb, ne_eqb, not_from_false, and_parts, and_from, and_left, and_right, both_ways, cond-true, cond-false}
 use Rattle.protocol.specs.Rules.{Rules, Lawful}
 use Rattle.tagged.specs.Operations.{claims}
-use Rattle.tagged.specs.Rule.{met, done_by}
+use Rattle.tagged.specs.Rule.{done_by}
 use Rattle.tagged.specs.declared.operations.Operation.{Operation}
 use Rattle.tagged.specs.declared.operations.Operation.TheVariants.{Read, Write, Clear}
 use Rattle.tagged.specs.declared.words.Word.{Word}
-use Rattle.promises.specs.Board.{Content, word_in, with_word_in, Frame, Entry, Tenure, Found, own_copy, read_in, claimed, unmet, Bus, free, granted, snooped, State, line_of, frame_of}
-use Rattle.promises.specs.Copies.{copy, keeps, owns, owes}
-use Rattle.promises.specs.Steps.{updated, updated_frame, settled_state, settle_state, victim, victim_owes, memory_without_victim}
+use Rattle.promises.specs.Board.{Content, word_in, with_word_in, Frame, Tenure, own_copy, read_in, claimed, snooped, State, line_of}
+use Rattle.promises.specs.Copies.{copy, keeps, owes}
+use Rattle.promises.specs.Steps.{updated, settled_state, settle_state, victim, victim_owes, memory_without_victim}
 use Rattle.promises.specs.OneMemory.{line_by_words}
 use Rattle.promises.proofs.Contents.{updated_same, updated_other, changed, changed_content, changed_other, unchanged_line}
-use Rattle.promises.proofs.Frames.{Kept, kept_of, keeps_by, keeps_same}
-use Rattle.promises.proofs.Copies.{claiming, Copies, one_line, owes_same, not_kept_not_owing}
-use Rattle.promises.proofs.Tenures.{Hits, Reads, Claims, FoundTrue}
+use Rattle.promises.proofs.Frames.{kept_of, keeps_by}
+use Rattle.promises.proofs.Copies.{claiming, Copies, owes_same, not_kept_not_owing}
+use Rattle.promises.proofs.Tenures.{Hits, Reads, Claims}
 use Rattle.promises.proofs.Putting.{Put, put_copies}
 use Rattle.promises.proofs.InPlace.{claim_owes, changed_in_place}
 

@@ -1,8 +1,8 @@
 -- Nobody sleeps through what it waits for: waking follows the word's state.
-use Rattle.std.proofs.Common.{◌≡◌, ℕ, Bool, true, false, cond, not, ◌&&◌, eqb, ◌⊎◌, Some, None, Option, sym, refl, ap, ◌∙◌, subst, inl, inr, ⊎_elim}
-use Rattle.std.proofs.lemmas.Bool.{cases_Bool, cases_eq, eq-eqb, and_from, and_cases, both_ways, cond-true, cond-false}
+use Rattle.std.proofs.Common.{◌≡◌, ℕ, true, false, Some, None, Option, sym, refl, ap, ◌∙◌, subst, ⊎_elim}
+use Rattle.std.proofs.lemmas.Bool.{cases_Bool, cases_eq, eq-eqb, and_cases, both_ways, cond-true, cond-false}
 use Rattle.tagged.specs.Operations.{condition}
-use Rattle.tagged.specs.Rule.{meets, met, rule, done_by, notice_of}
+use Rattle.tagged.specs.Rule.{meets, met, rule, notice_of}
 use Rattle.tagged.specs.declared.answers.Notice.{Notice}
 use Rattle.tagged.specs.declared.answers.Notice.TheVariants.{Nothing}
 use Rattle.tagged.specs.declared.operations.Operation.{Operation}
@@ -11,7 +11,7 @@ use Rattle.tagged.specs.declared.words.Word.{Word}
 use Rattle.tagged.specs.declared.words.WordState.{WordState}
 use Rattle.tagged.specs.declared.words.WordState.TheVariants.{Empty, Full}
 use Rattle.promises.specs.Board.{Entry}
-use Rattle.promises.specs.Lists.{on_word, told_state, needs_told, wakes, wake, set_asleep}
+use Rattle.promises.specs.Lists.{on_word, told_state, needs_told, wakes, wake}
 use Rattle.promises.specs.Steps.{updated}
 use Rattle.promises.proofs.Contents.{updated_same, updated_other}
 use Rattle.promises.proofs.Entries.{wake_cases}

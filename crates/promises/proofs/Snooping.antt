@@ -1,18 +1,16 @@
 -- A snoop keeps copies and memory true, and what it finds is true.
-use Rattle.std.proofs.Common.{◌≡◌, ℕ, ◌%◌, ◌<◌, Bool, true, false, cond, not, ◌&&◌, ◌||◌, eqb, ltb, ◌⊎◌, sym, refl, ap, ◌∙◌, subst, inl, inr, ⊎_elim, arith}
-use Rattle.std.proofs.lemmas.Bool.{cases_eq, cases_Bool, eq-eqb, ne_eqb, eqb-true, eqb-false, not-true, not-false, not_from_true, not_from_false, and_parts, and_from, and_left, and_right, and_cases, or_left, or_right, or_parts, both_ways, cond-true, cond-false}
+use Rattle.std.proofs.Common.{◌≡◌, ℕ, ◌%◌, ◌<◌, Bool, true, false, not, ◌&&◌, eqb, ◌⊎◌, sym, refl, ap, ◌∙◌, inl, inr, ⊎_elim}
+use Rattle.std.proofs.lemmas.Bool.{cases_eq, cases_Bool, eq-eqb, ne_eqb, eqb-true, not-true, not_from_false, and_parts, and_from, and_left, and_right, and_cases, or_left, both_ways, cond-true, cond-false}
 use Rattle.protocol.specs.Rules.{Rules, Lawful}
 use Rattle.tagged.specs.Operations.{claims}
 use Rattle.tagged.specs.declared.words.Word.{Word}
-use Rattle.promises.specs.Board.{Content, Frame, Entry, Tenure, Found, own_copy, read_in, claimed, unmet, Bus, free, granted, snooped, State, line_of, frame_of}
-use Rattle.promises.specs.Copies.{copy, keeps, owns, owes, others_keep, lowest, any_core, supplied}
-use Rattle.promises.specs.Steps.{updated, asked, asked_line, own_suffices, fetches, snoop_met, snoop_found, moved, pays, snoop_state}
+use Rattle.promises.specs.Board.{Content, Frame, Tenure, claimed, snooped, State, line_of}
+use Rattle.promises.specs.Copies.{copy, keeps, owes, others_keep, lowest, any_core, supplied}
+use Rattle.promises.specs.Steps.{updated, own_suffices, fetches, snoop_met, snoop_found, moved, pays, snoop_state}
 use Rattle.promises.specs.OneMemory.{line_by_words}
-use Rattle.promises.specs.Promises.{WritersAreAlone}
 use Rattle.promises.proofs.Contents.{updated_same, updated_other}
-use Rattle.promises.proofs.Frames.{Kept, kept_of, keeps_by, keeps_same, lowest_passes, none_passes}
-use Rattle.promises.proofs.Copies.{claiming, Copies, Fewer, fewer_in_memory, fewer_true, fewer_alone, one_line, owes_same, owns_same, not_kept_not_owing}
-use Rattle.promises.proofs.Standing.{fetched_true}
+use Rattle.promises.proofs.Frames.{kept_of, keeps_by, keeps_same, lowest_passes, none_passes}
+use Rattle.promises.proofs.Copies.{claiming, Copies, Fewer, fewer_in_memory, fewer_true, fewer_alone, one_line, owes_same, owns_same}
 
 module _ (r : Rules) (law : Lawful r) (T : ℕ → Word) (s : State) (t : Tenure) (was : Copies r T s) where
   abbrev n : ℕ

@@ -1,19 +1,18 @@
 -- What every run keeps of copies, bus and lists, beside the one tagged memory m.
-use Rattle.std.proofs.Common.{◌≡◌, ℕ, ◌+◌, ◌%◌, ◌<◌, ◌≤◌, Bool, true, false, cond, not, ◌&&◌, ◌||◌, eqb, ◌⊎◌, List, [], ◌∷◌, ◌++◌, map, Some, None, Ok, Err, Option, sym, refl, ap, ◌∙◌, subst, inl, inr, ⊎_elim, arith}
-use Rattle.std.proofs.lemmas.Bool.{cases_eq, cases_Bool, both_ways, cond-true, cond-false}
-use Rattle.protocol.specs.Rules.{Rules, Lawful}
+use Rattle.std.proofs.Common.{◌≡◌, ℕ, ◌%◌, ◌<◌, ◌≤◌, true, false, [], ◌∷◌, Some, None, Ok, Err, Option, sym, refl, ap, ◌∙◌, subst, ⊎_elim, arith}
+use Rattle.std.proofs.lemmas.Bool.{cases_Bool, cond-true, cond-false}
+use Rattle.protocol.specs.Rules.{Rules}
 use Rattle.tagged.specs.declared.refusals.Refusal.{Refusal}
 use Rattle.tagged.specs.declared.words.Word.{Word}
-use Rattle.promises.specs.Board.{Content, Frame, Entry, Tenure, Bus, free, granted, snooped, State, line_of}
+use Rattle.promises.specs.Board.{Frame, Entry, Tenure, Bus, free, granted, snooped, State, line_of}
 use Rattle.promises.specs.Calls.{OrRefused, Call}
-use Rattle.promises.specs.Copies.{copy, keeps, owns, owes}
 use Rattle.promises.specs.Refusing.{Reasons, first_reason, reply_unless, after_unless}
 use Rattle.promises.specs.Steps.{Agree}
-use Rattle.promises.specs.OneMemory.{Note, TaggedMemory, line_by_words, feed}
-use Rattle.promises.specs.Promises.{EveryEntry, WritersAreAlone}
+use Rattle.promises.specs.OneMemory.{Note, TaggedMemory, feed}
+use Rattle.promises.specs.Promises.{EveryEntry}
 use Rattle.promises.proofs.Frames.{keeps_same, same_state_as}
 use Rattle.promises.proofs.Copies.{claiming, Copies, owes_same, owns_same}
-use Rattle.promises.proofs.Entries.{Present, SameRequest, every_weaker, every_present}
+use Rattle.promises.proofs.Entries.{Present, every_weaker, every_present}
 use Rattle.promises.proofs.Tenures.{BusTrue}
 use Rattle.promises.proofs.Sleeping.{SleepsRight}
 

@@ -1,6 +1,6 @@
 -- Every answer, look and save speaks for the one tagged memory.
-use Rattle.std.proofs.Common.{◌≡◌, ℕ, ◌+◌, ◌%◌, ◌<◌, ◌≤◌, min, Bool, true, false, cond, not, ◌&&◌, ◌||◌, eqb, leb, ◌⊎◌, List, [], ◌∷◌, ◌++◌, map, length, drop, is_some, Some, None, Ok, Err, Option, sym, refl, ap, ◌∙◌, subst, inl, inr, ⊎_elim, arith}
-use Rattle.std.proofs.lemmas.Bool.{cases_eq, cases_Bool, eq-eqb, ne_eqb, eqb-true, eqb-false, leb-false, not-true, not-false, not_from_true, not_from_false, and_parts, and_from, and_left, and_right, and_cases, or_cases, both_ways, cond-true, cond-false}
+use Rattle.std.proofs.Common.{◌≡◌, ℕ, ◌<◌, min, Bool, true, false, cond, ◌&&◌, eqb, ◌⊎◌, List, [], ◌++◌, length, drop, Some, None, Ok, Err, Option, sym, refl, ap, ◌∙◌, subst, inl, inr, ⊎_elim, arith}
+use Rattle.std.proofs.lemmas.Bool.{cases_Bool, eqb-true, not-false, and_parts, and_from, both_ways, cond-true, cond-false}
 use Rattle.protocol.specs.Rules.{Rules, Lawful}
 use Rattle.memory.specs.Pictures.{picture_length}
 use Rattle.tagged.specs.Operations.{claims, class_of, operation_coded}
@@ -17,23 +17,21 @@ use Rattle.tagged.specs.declared.rule.Served.{Served}
 use Rattle.tagged.specs.declared.words.Word.{Word}
 use Rattle.tagged.specs.declared.words.WordState.{WordState}
 use Rattle.tagged.specs.declared.words.WordState.TheVariants.{Empty}
-use Rattle.promises.specs.Board.{Content, Frame, Entry, Tenure, Found, own_copy, read_in, claimed, unmet, Bus, free, granted, snooped, State, line_of, frame_of}
+use Rattle.promises.specs.Board.{Content, Entry, Tenure, Found, own_copy, read_in, claimed, unmet, Bus, free, granted, snooped, State, line_of}
 use Rattle.promises.specs.Board.{word_in, served_lines}
-use Rattle.promises.specs.Calls.{Stage, to_snoop, to_settle, Slip, SnoopReport, Tally, OrRefused, Call, issue, grant, give_back, snoop, settle, withdraw, evict, drain, look, save, tally}
+use Rattle.promises.specs.Calls.{to_snoop, to_settle, Slip, SnoopReport, OrRefused, Call, issue, grant, give_back, snoop, settle, withdraw, evict, drain, look, save, tally}
 use Rattle.promises.specs.Copies.{stands}
 use Rattle.promises.specs.Lists.{woken, oldest_ready}
-use Rattle.promises.specs.Refusing.{first_reason, reply_unless, after_unless, same_stage, of_tenure, bus_at, grant_reasons, slip_reasons, issue_reasons, withdraw_reasons, evict_reasons, drain_reasons, look_reasons, save_reasons}
-use Rattle.promises.specs.Steps.{Agree, Step, updated, grant_bus, gives_up, answer_undone, answer_served, picture_of, own_word, own_suffices, snoop_met, snoop_word, snoop_kind, snoop_found, snoop_report, snoop_state, snoop_on, snoop_to, settle_done, settle_state, settle_answer, settle_on, settle_to, answers_now, issue_served, issue_now, issue_later, issue_answer, issue_refusal}
-use Rattle.promises.specs.OneMemory.{Note, TaggedMemory, note, serve_noted, decide, noted_gives_up, is_done, is_answer, feed, line_by_words}
+use Rattle.promises.specs.Refusing.{first_reason, reply_unless, after_unless, same_stage, of_tenure, bus_at, grant_reasons, slip_reasons, withdraw_reasons, evict_reasons, drain_reasons, look_reasons, save_reasons}
+use Rattle.promises.specs.Steps.{Agree, Step, updated, grant_bus, gives_up, answer_undone, answer_served, picture_of, own_suffices, snoop_met, snoop_word, snoop_kind, snoop_found, snoop_report, snoop_state, snoop_on, snoop_to, settle_state, settle_answer, settle_on, settle_to, answers_now, issue_served, issue_now, issue_later, issue_answer, issue_refusal}
+use Rattle.promises.specs.OneMemory.{TaggedMemory, note, serve_noted, decide, noted_gives_up, is_done, is_answer, feed, line_by_words}
 use Rattle.promises.specs.Promises.{AsGiven, AnswerIsGiven, SpeaksTrue}
 use Rattle.promises.specs.Runs.{Opening}
 use Rattle.promises.proofs.Contents.{updated_same, updated_other, line_word}
-use Rattle.promises.proofs.Frames.{same_state_as}
-use Rattle.promises.proofs.Copies.{claiming, Copies}
 use Rattle.promises.proofs.Standing.{stands_true}
 use Rattle.promises.proofs.Tenures.{Met, FoundTrue, BusTrue, travels_true, unmet_undone}
 use Rattle.promises.proofs.OnIssue.{answers, own_is}
-use Rattle.promises.proofs.Sound.{note_of, Noted, WaitsIn, TenureWaits, Sound, tenure_noted, cleared, by_reply}
+use Rattle.promises.proofs.Sound.{note_of, WaitsIn, TenureWaits, Sound, tenure_noted, cleared, by_reply}
 
 -- the answer that is owed after a snoop of kind 3 is what the memory gave
 pub record OwesAnswer (m : TaggedMemory) (k : ℕ) (o : Outcome) (found : WordState) : Type 0 where

@@ -1,5 +1,5 @@
 -- Every answer, look and save of a run is that of one tagged memory.
-use Rattle.std.proofs.Common.{◌≡◌, ℕ, Bool, true, false, cond, List, [], ◌∷◌, Some, None, Option, sym, refl, ap, ◌∙◌, subst}
+use Rattle.std.proofs.Common.{◌≡◌, Bool, true, false, cond, List, [], Some, None, Option, sym, refl, ap, ◌∙◌, subst}
 use Rattle.protocol.specs.Rules.{Rules, Lawful}
 use Rattle.tagged.specs.Operations.{operation_coded}
 use Rattle.tagged.specs.declared.refusals.Refusal.{Refusal}

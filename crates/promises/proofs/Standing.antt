@@ -1,13 +1,13 @@
 -- A line as it stands is the one tagged memory's.
-use Rattle.std.proofs.Common.{◌≡◌, ℕ, ◌%◌, ◌<◌, Bool, true, false, cond, not, ◌&&◌, ◌||◌, eqb, ltb, ◌⊎◌, sym, refl, ap, ◌∙◌, subst, inl, inr, ⊎_elim, arith}
-use Rattle.std.proofs.lemmas.Bool.{cases_eq, cases_Bool, eq-eqb, ne_eqb, eqb-true, eqb-false, lt-ltb, le-ltb, and_parts, and_from, and_left, and_right, both_ways, cond-true, cond-false}
-use Rattle.protocol.specs.Rules.{Rules, Lawful}
+use Rattle.std.proofs.Common.{◌≡◌, ℕ, true, false, eqb, ltb, refl, ap, ◌∙◌, ⊎_elim, arith}
+use Rattle.std.proofs.lemmas.Bool.{cases_Bool, eqb-true, lt-ltb, le-ltb, and_parts, and_left, cond-true, cond-false}
+use Rattle.protocol.specs.Rules.{Rules}
 use Rattle.tagged.specs.declared.words.Word.{Word}
-use Rattle.promises.specs.Board.{Content, Frame, Tenure, Found, own_copy, read_in, claimed, unmet, Bus, free, granted, snooped, State, line_of, frame_of}
-use Rattle.promises.specs.Copies.{copy, keeps, owns, owes, lowest, any_core, supplier, supplied, travelling, stands}
+use Rattle.promises.specs.Board.{Content, own_copy, read_in, claimed, unmet, Bus, free, granted, snooped, State, line_of}
+use Rattle.promises.specs.Copies.{copy, keeps, owes, lowest, any_core, supplier, supplied, travelling, stands}
 use Rattle.promises.specs.OneMemory.{line_by_words}
-use Rattle.promises.proofs.Frames.{Kept, kept_of, lowest_passes, lowest_none, none_passes}
-use Rattle.promises.proofs.Copies.{claiming, Copies, not_kept_not_owing}
+use Rattle.promises.proofs.Frames.{kept_of, lowest_passes, lowest_none, none_passes}
+use Rattle.promises.proofs.Copies.{claiming, Copies}
 
 -- the line that travels is the one tagged memory's
 abbrev pub TravelsTrue : (ℕ → Word) → Bus → Type 0

@@ -1,6 +1,6 @@
 -- What a snooped tenure has found stays true, and a settle keeps copies and memory true.
-use Rattle.std.proofs.Common.{◌≡◌, ℕ, ◌%◌, ◌<◌, Bool, true, false, cond, not, ◌&&◌, ◌||◌, eqb, ltb, ◌⊎◌, sym, refl, ap, ◌∙◌, subst, inl, inr, ⊎_elim, arith}
-use Rattle.std.proofs.lemmas.Bool.{cases_eq, cases_Bool, eq-eqb, ne_eqb, eqb-true, not-true, not-false, not_from_true, not_from_false, and_parts, and_from, and_left, and_right, and_cases, or_cases, or_left, or_right, or_parts, both_ways, cond-true, cond-false}
+use Rattle.std.proofs.Common.{◌≡◌, ℕ, ◌%◌, Bool, true, false, not, eqb, sym, refl, ap, ◌∙◌, subst, ⊎_elim}
+use Rattle.std.proofs.lemmas.Bool.{cases_eq, cases_Bool, eq-eqb, ne_eqb, not-true, not_from_true, not_from_false, and_parts, and_from, and_left, and_right, or_cases, or_right, both_ways, cond-true, cond-false}
 use Rattle.protocol.specs.Rules.{Rules, Lawful}
 use Rattle.tagged.specs.Operations.{claims, class_of}
 use Rattle.tagged.specs.Rule.{met, unmet_outcome}
@@ -9,13 +9,13 @@ use Rattle.tagged.specs.declared.operations.Operation.{Operation}
 use Rattle.tagged.specs.declared.operations.Operation.TheVariants.{Read, Write, Clear}
 use Rattle.tagged.specs.declared.words.Word.{Word}
 use Rattle.tagged.specs.declared.words.WordState.{WordState}
-use Rattle.promises.specs.Board.{Content, word_in, with_word_in, Frame, Entry, Tenure, Found, own_copy, read_in, claimed, unmet, Bus, free, granted, snooped, State, line_of, frame_of}
-use Rattle.promises.specs.Copies.{copy, keeps, owns, owes, others_keep, any_core, supplied, stands}
-use Rattle.promises.specs.Steps.{updated, own_suffices, fetches, snoop_met, snoop_found, snoop_state}
+use Rattle.promises.specs.Board.{Content, word_in, Frame, Tenure, Found, own_copy, read_in, claimed, unmet, Bus, free, granted, snooped, State, line_of}
+use Rattle.promises.specs.Copies.{copy, keeps, owns, others_keep, any_core, supplied, stands}
+use Rattle.promises.specs.Steps.{own_suffices, fetches, snoop_met, snoop_found, snoop_state}
 use Rattle.promises.specs.OneMemory.{line_by_words, is_done}
-use Rattle.promises.proofs.Contents.{updated_same, updated_other, line_word, put_same, line_put, line_kept}
-use Rattle.promises.proofs.Frames.{Kept, kept_of, keeps_by, keeps_same, any_from}
-use Rattle.promises.proofs.Copies.{claiming, Copies, Fewer, one_line, owes_same, owns_same, not_kept_not_owing}
+use Rattle.promises.proofs.Contents.{line_word}
+use Rattle.promises.proofs.Frames.{kept_of, keeps_same, any_from}
+use Rattle.promises.proofs.Copies.{claiming, Copies, Fewer}
 use Rattle.promises.proofs.Standing.{TravelsTrue, stands_true, fetched_true}
 use Rattle.promises.proofs.Snooping as snooping
 

@@ -1,7 +1,7 @@
 -- Which caches keep a line, and the line as it stands.
-use Rattle.std.specs.Prelude.{ℕ, ◌+◌, ◌*◌, Bool, true, false, cond, not, ◌&&◌, ◌||◌, ◌==◌, nat_lt}
+use Rattle.std.specs.Prelude.{ℕ, ◌+◌, Bool, cond, not, ◌&&◌, ◌||◌, ◌==◌, nat_lt}
 use Rattle.protocol.specs.Rules.{Rules}
-use Rattle.promises.specs.Board.{Content, Frame, Entry, Tenure, Found, own_copy, read_in, claimed, unmet, Bus, free, granted, snooped, State, line_of, frame_of}
+use Rattle.promises.specs.Board.{Content, Frame, own_copy, read_in, claimed, unmet, Bus, free, granted, snooped, State, line_of, frame_of}
 
 -- the frame in which core c would have line n
 abbrev pub copy : State → ℕ → ℕ → Frame

@@ -1,5 +1,5 @@
 -- A run written out: two cores, MESI over 64 blank lines.
-use Rattle.std.specs.Prelude.{ℕ, ◌^◌, ◌<◌, ◌≤◌, true, false, List, [], ◌∷◌, Ok, Err}
+use Rattle.std.specs.Prelude.{ℕ, true, false, List, [], ◌∷◌, Ok}
 use Rattle.std.proofs.Common.{lit<, lit≤}
 use Rattle.protocol.specs.Rules.{Rules}
 use Rattle.protocol.specs.Standards.{standard_rules}

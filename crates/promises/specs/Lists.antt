@@ -1,5 +1,5 @@
 -- The lists of waiting requests.
-use Rattle.std.specs.Prelude.{ℕ, Bool, true, false, cond, not, ◌&&◌, ◌||◌, List, [], ◌∷◌, map, Some, None, count_by, Option, ◌==◌}
+use Rattle.std.specs.Prelude.{ℕ, Bool, true, false, cond, not, ◌&&◌, ◌||◌, List, [], ◌∷◌, Some, None, count_by, Option, ◌==◌}
 use Rattle.tagged.specs.Operations.{condition}
 use Rattle.tagged.specs.Rule.{same_state}
 use Rattle.tagged.specs.declared.answers.Notice.{Notice}

@@ -7,7 +7,7 @@ use Rattle.tagged.specs.declared.answers.Answer.{Answer}
 use Rattle.tagged.specs.declared.answers.Outcome.{Outcome}
 use Rattle.tagged.specs.declared.answers.Outcome.TheVariants.{Done, Discarded, Trap, Waits}
 use Rattle.tagged.specs.declared.rule.Served.{Served}
-use Rattle.promises.specs.Board.{Entry, State, Content}
+use Rattle.promises.specs.Board.{Entry, State}
 use Rattle.promises.specs.Calls.{Call, issue, grant, give_back, snoop, settle, withdraw, evict, drain, look, save, tally, Tally}
 use Rattle.promises.specs.Copies.{copy, keeps, owns}
 use Rattle.promises.specs.Steps.{Step, picture_of}

@@ -4,7 +4,7 @@ use Rattle.memory.specs.Pictures.{picture_length}
 use Rattle.protocol.specs.Rules.{Rules}
 use Rattle.tagged.specs.declared.refusals.Refusal.{Refusal}
 use Rattle.tagged.specs.declared.refusals.Refusal.TheVariants.{NoSuchCore, NoSuchOperation, WordNotServed, NumbersUsedUp, ListFull, BusGiven, NothingReady, NotThisTenure, NotWaiting, HasTheBus, LineNotKept, BusGivenForLine, NoRoomToSave}
-use Rattle.promises.specs.Board.{Tenure, Bus, free, granted, snooped, State, line_of, served_lines}
+use Rattle.promises.specs.Board.{Bus, free, granted, snooped, State, line_of, served_lines}
 use Rattle.promises.specs.Calls.{Stage, to_snoop, to_settle, Slip, OrRefused}
 use Rattle.promises.specs.Copies.{keeps, any_core}
 use Rattle.promises.specs.Lists.{any_entry, numbered, oldest_ready}

@@ -1,5 +1,5 @@
 -- Histories and states that are false, and that the promises refuse.
-use Rattle.std.specs.Prelude.{◌≡◌, ℕ, ◌+◌, ◌<◌, ◌≤◌, true, false, List, ◌∷◌, ◌++◌, length, Ok, ◌≢◌}
+use Rattle.std.specs.Prelude.{◌≡◌, ℕ, ◌+◌, ◌<◌, ◌≤◌, true, List, ◌∷◌, ◌++◌, length, Ok, ◌≢◌}
 use Rattle.protocol.specs.Rules.{Rules}
 use Rattle.tagged.specs.Rule.{met}
 use Rattle.tagged.specs.declared.answers.Answer.{Answer}

@@ -3,7 +3,7 @@ use Rattle.std.specs.Prelude.{◌≡◌, ℕ, ◌^◌, ◌<◌, ◌≤◌, List,
 use Rattle.protocol.specs.Rules.{Rules}
 use Rattle.tagged.specs.declared.words.Word.{Word}
 use Rattle.tagged.specs.declared.words.WordState.TheVariants.{Empty}
-use Rattle.promises.specs.Board.{Content, Frame, Bus, free, State}
+use Rattle.promises.specs.Board.{Content, Frame, free, State}
 use Rattle.promises.specs.Calls.{Slip, OrRefused, Call, issue, grant, give_back, snoop, settle, withdraw, evict, drain, look, save, tally}
 use Rattle.promises.specs.Steps.{Agree, Step}
 

@@ -6,7 +6,6 @@ use Rattle.protocol.specs.Rules.{Rules}
 use Rattle.tagged.specs.Operations.{class_of, claims, operation_coded}
 use Rattle.tagged.specs.Rule.{met, rule, done_by, unmet_outcome, unmet_found}
 use Rattle.tagged.specs.declared.answers.Answer.{Answer}
-use Rattle.tagged.specs.declared.answers.Notice.{Notice}
 use Rattle.tagged.specs.declared.answers.Notice.TheVariants.{Nothing}
 use Rattle.tagged.specs.declared.answers.Outcome.{Outcome}
 use Rattle.tagged.specs.declared.answers.Outcome.TheVariants.{Done, Discarded, Trap, Waits}
@@ -20,7 +19,7 @@ use Rattle.tagged.specs.declared.words.Word.{Word}
 use Rattle.tagged.specs.declared.words.WordState.{WordState}
 use Rattle.tagged.specs.declared.words.WordState.TheVariants.{Empty}
 use Rattle.promises.specs.Board.{Content, word_in, with_word_in, Entry, Frame, Tenure, Found, own_copy, read_in, claimed, unmet, Bus, free, granted, snooped, Counts, State, line_of, frame_of, served_lines}
-use Rattle.promises.specs.Calls.{Stage, to_snoop, to_settle, Slip, SnoopReport, Tally, OrRefused, Call, issue, grant, give_back, snoop, settle, withdraw, evict, drain, look, save, tally}
+use Rattle.promises.specs.Calls.{to_snoop, to_settle, Slip, SnoopReport, Tally, OrRefused, Call, issue, grant, give_back, snoop, settle, withdraw, evict, drain, look, save, tally}
 use Rattle.promises.specs.Copies.{copy, keeps, owes, others_keep, lowest, core_bits, any_core, over_cores, supplier, supplied, stands}
 use Rattle.promises.specs.Lists.{on_word, any_entry, numbered, without, put_to_sleep, oldest_ready, wakes, wake, woken}
 use Rattle.promises.specs.Refusing.{first_reason, reply_unless, after_unless, issue_reasons, grant_reasons, slip_reasons, withdraw_reasons, evict_reasons, drain_reasons, look_reasons, save_reasons}

@@ -1,5 +1,6 @@
 // What holds after every list of calls: mathematics over what each call does, for every lawful protocol and memory.
 #![tactic(auto)]
+
 ghost use Rattle.promises.specs.Promises.{EveryRunKeepsItsPromises, OneMoreStepKeepsThePromises};
 ghost use Rattle.promises.specs.Refuted.{PromisesTellTrueFromFalse};
 ghost use Rattle.promises.specs.Runs.{StepsLeaveNothingOpen};

@@ -1,5 +1,5 @@
 -- What a protocol means, and when it is lawful.
-use Rattle.std.specs.Prelude.{◌≡◌, Bool, true, false, ◌⊎◌, ℕ, ◌<◌}
+use Rattle.std.specs.Prelude.{◌≡◌, Bool, true, false, ℕ, ◌<◌}
 
 -- by the state code of a copy, a number below 256
 pub record Rules : Type 0 where

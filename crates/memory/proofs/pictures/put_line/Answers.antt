@@ -1,8 +1,4 @@
-use Rattle.std.proofs.Common.{◌≡◌, ℕ, ◌<◌, ◌≤◌, List, ◌++◌, length, set, sym, refl, ap, ◌∙◌, subst, arith, rules}
-use Rattle.std.proofs.lemmas.List.{set_past}
-use Rattle.tagged.specs.declared.words.Line.{Line}
-use Rattle.memory.specs.Pictures.{picture, picture_length, PutsLine}
-use Rattle.memory.proofs.Places.{Bytes}
+use Rattle.std.proofs.Common.{refl, arith, rules}
 use Rattle.memory.proofs.Writing.{line_put, line_kept, line_room}
 use Rattle.memory.proofs.pictures.put_line.Goals as goal
 use Rattle.memory.proofs.pictures.put_line.Goals.{else-n-count-via-then-n-count+else-picture_length-buffer, else-n-count-via-else-n-count}

@@ -1,9 +1,9 @@
-use Rattle.std.proofs.Common.{◌≡◌, [], ◌++◌, length, drop, sym, refl, ap, ◌∙◌, append-nil, arith, below_more}
+use Rattle.std.proofs.Common.{◌≡◌, [], ◌++◌, length, drop, sym, ap, ◌∙◌, append-nil, arith, below_more}
 use lib.ListN.{length-replicate}
 use Rattle.tagged.specs.Words.{blank}
 use Rattle.memory.specs.Pictures.{picture, picture_length, lines_at}
 use Rattle.memory.proofs.Places.{lines_back, picture_sound}
-use Rattle.memory.proofs.Writing.{begun, length_begun, begun_none, begun_more, begun_all, line_room, no_line, behind_picture}
+use Rattle.memory.proofs.Writing.{length_begun, begun_none, begun_more, begun_all, line_room, no_line, behind_picture}
 use Rattle.memory.proofs.pictures.write_picture.Goals as goal
 use Rattle.memory.proofs.pictures.write_picture.Goals.{In_ok-length}
 

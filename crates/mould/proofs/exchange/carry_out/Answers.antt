@@ -1,4 +1,4 @@
-use Rattle.std.proofs.Common.{arith, rules}
+use Rattle.std.proofs.Common.{arith}
 use Rattle.std.proofs.lemmas.Result.{err_from_is_err_and}
 use Rattle.mould.proofs.Handing.{handed_more, handed_all, handed_keeps}
 use Rattle.mould.proofs.exchange.carry_out.Goals as goal
