@@ -6,6 +6,7 @@ use mould::exchange::carry_out;
 use mould::plan::{MOST_FACES, face_count, first_faces};
 use mould::report::Totals;
 use std::env;
+use std::process::ExitCode;
 
 const FACES_UNLESS_TOLD: u32 = 8;
 
@@ -38,10 +39,13 @@ fn run(rt: &HostRuntime) -> anyhow::Result<()> {
     Ok(())
 }
 
-fn main(rt: HostRuntime) -> anyhow::Result<()> {
-    let ran = run(&rt);
-    if let Err(fault) = &ran {
-        eprintln!(rt; "handover: {fault}")?;
+// What ended a run early is told once, on standard error.
+fn main(rt: HostRuntime) -> ExitCode {
+    match run(&rt) {
+        Ok(()) => ExitCode::SUCCESS,
+        Err(fault) => {
+            let _ = eprintln!(rt; "handover: {fault}");
+            ExitCode::FAILURE
+        }
     }
-    ran
 }
