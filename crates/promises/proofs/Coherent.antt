@@ -25,13 +25,11 @@ module _ (r : Rules) (law : Lawful r) where
     copies = record {
       codes = λ c i. omega arith;
       placed = λ c i k. absurd (both_ways (r.kept 0) law.zero_not_kept k);
-      in_memory = λ c n k. absurd (keeps_empty r law (opened o) c n refl k);
       true_copies = λ c n k. absurd (keeps_empty r law (opened o) c n refl k);
       alone = λ c d n own k. absurd (keeps_empty r law (opened o) d n refl k);
       true_memory = λ n none quiet. opening_line o.memory n;
     };
     bus = tt;
-    in_memory = λ k. tt;
     notes = λ c. tt;
     tenure = tt;
     sleepers = λ c. tt;

@@ -25,8 +25,6 @@ claiming (snooped t (unmet o found)) n = false
 pub record Copies (r : Rules) (T : ℕ → Word) (s : State) : Type 0 where
   pub codes : (c i : ℕ) → (s.frame c i).code < 256
   pub placed : (c i : ℕ) → r.kept (s.frame c i).code ≡ true → (s.frame c i).line % 16 ≡ i
-  -- a kept line is one of the memory's
-  pub in_memory : (c n : ℕ) → keeps r s c n ≡ true → n < s.setup.lines
   pub true_copies : (c n : ℕ) → keeps r s c n ≡ true → (copy s c n).content ≡ line_by_words T n
   pub alone : WritersAreAlone r s
   pub true_memory : (n : ℕ) → ((c : ℕ) → owes r s c n ≡ false) → claiming s.bus n ≡ false → s.memory n ≡ line_by_words T n
@@ -38,9 +36,6 @@ pub record Fewer (r : Rules) (s t : State) : Type 0 where
   pub sole : (c n : ℕ) → owns r t c n ≡ true → owns r s c n ≡ true
 
 module _ (r : Rules) (T : ℕ → Word) (s t : State) (was : Copies r T s) (fewer : Fewer r s t) where
-  pub fewer_in_memory : (c n : ℕ) → keeps r t c n ≡ true → n < s.setup.lines
-  fewer_in_memory c n k = was.in_memory c n (fewer.kept c n k)
-
   pub fewer_true : (c n : ℕ) → keeps r t c n ≡ true → (copy t c n).content ≡ line_by_words T n
   fewer_true c n k = fewer.content c n k ∙ was.true_copies c n (fewer.kept c n k)
 
@@ -104,14 +99,11 @@ module _ (r : Rules) (law : Lawful r) (T : ℕ → Word) (s : State) (c w : ℕ)
   unfolding after
   evict_memory n none quiet = ⊎_elim here elsewhere (cases_eq n (line_of w))
     where
-      paid : r.owing (copy s c (line_of w)).code ≡ true → after.memory ≡ updated s.memory (line_of w) (copy s c (line_of w)).content
-      paid t = cond-true (r.owing (copy s c (line_of w)).code) _ s.memory t
-
       here : n ≡ line_of w → after.memory n ≡ line_by_words T n
       here e =
           ⊎_elim
           (λ t.
-          ap (λ (m : ℕ → Content). m n) (paid t)
+          ap (λ (m : ℕ → Content). m n) (cond-true (r.owing (copy s c (line_of w)).code) _ s.memory t)
           ∙ ap (updated s.memory (line_of w) (copy s c (line_of w)).content) e
           ∙ updated_same s.memory (line_of w) (copy s c (line_of w)).content
           ∙ was.true_copies c (line_of w) kept
@@ -126,7 +118,7 @@ module _ (r : Rules) (law : Lawful r) (T : ℕ → Word) (s : State) (c w : ℕ)
       elsewhere : (n ≡ line_of w → ⊥) → after.memory n ≡ line_by_words T n
       elsewhere ne =
           ⊎_elim
-          (λ t. ap (λ (m : ℕ → Content). m n) (paid t) ∙ updated_other s.memory (line_of w) n (copy s c (line_of w)).content ne)
+          (λ t. ap (λ (m : ℕ → Content). m n) (cond-true (r.owing (copy s c (line_of w)).code) _ s.memory t) ∙ updated_other s.memory (line_of w) n (copy s c (line_of w)).content ne)
           (λ f. ap (λ (m : ℕ → Content). m n) (cond-false (r.owing (copy s c (line_of w)).code) _ s.memory f))
           (cases_Bool (r.owing (copy s c (line_of w)).code))
           ∙ was.true_memory n (λ d. still d n (λ same _. ne same) (none d)) quiet
@@ -139,7 +131,6 @@ module _ (r : Rules) (law : Lawful r) (T : ℕ → Word) (s : State) (c w : ℕ)
         ⊎_elim (λ p. absurd (both_ways (r.kept 0) law.zero_not_kept (sym (ap (λ (f : Frame). r.kept f.code) p.2) ∙ k)))
         (λ p. ap (λ (f : Frame). f.line % 16) p.1 ∙ was.placed d i (sym (ap (λ (f : Frame). r.kept f.code) p.1) ∙ k))
         (frame_cases s.frame c (frame_of (line_of w)) (dropped (copy s c (line_of w))) d i);
-    in_memory = fewer_in_memory r T s after was evict_fewer;
     true_copies = fewer_true r T s after was evict_fewer;
     alone = fewer_alone r T s after was evict_fewer;
     true_memory = evict_memory;
@@ -160,15 +151,13 @@ module _ (r : Rules) (law : Lawful r) (T : ℕ → Word) (s : State) (was : Copi
   drain_copies = record {
     codes = λ c i. omega arith;
     placed = λ c i k. absurd (both_ways (r.kept 0) law.zero_not_kept k);
-    in_memory = λ c n k. absurd (none_kept c n k);
     true_copies = λ c n k. absurd (none_kept c n k);
     alone = λ c d n own k. absurd (none_kept d n k);
     true_memory = λ n none claims.
         ⊎_elim
         (λ t.
         let low = lowest_passes (λ c. owes r s c n) t in
-        let kept = (and_parts (keeps r s (lowest (λ c. owes r s c n)) n) _ low.0).0 in
-        cond-true _ _ (s.memory n) t ∙ was.true_copies _ n kept)
+        cond-true _ _ (s.memory n) t ∙ was.true_copies _ n (and_parts (keeps r s (lowest (λ c. owes r s c n)) n) _ low.0).0)
         (λ f.
         cond-false _ _ (s.memory n) f
         ∙ was.true_memory n

@@ -33,7 +33,7 @@ module _ (r : Rules) (law : Lawful r) (T : ℕ → Word) (s : State) (c w : ℕ)
   content = with_word_in own.content w (g (word_in own.content w))
 
   -- the frame has the changed line, with the own_claim code after a claim; memory and the line being claimed stay
-  module _ (lines : after.setup.lines ≡ s.setup.lines) (filled : (d j : ℕ) → after.frame d j ≡ updated_frame s.frame c (frame_of n) (record { code = code; line = own.line; content = content }) d j) (memory : (m : ℕ) → after.memory m ≡ s.memory m) (bus : (m : ℕ) → claiming after.bus m ≡ false → claiming s.bus m ≡ false) where
+  module _ (filled : (d j : ℕ) → after.frame d j ≡ updated_frame s.frame c (frame_of n) (record { code = code; line = own.line; content = content }) d j) (memory : (m : ℕ) → after.memory m ≡ s.memory m) (bus : (m : ℕ) → claiming after.bus m ≡ false → claiming s.bus m ≡ false) where
     frames : (d j : ℕ) → after.frame d j ≡ updated_frame s.frame c (frame_of n) (record { code = code; line = n; content = content }) d j
     frames d j = filled d j ∙ ap (λ l. updated_frame s.frame c (frame_of n) (record { code = code; line = l; content = content }) d j) (kept_of r s c n kept).line
 
@@ -88,8 +88,6 @@ module _ (r : Rules) (law : Lawful r) (T : ℕ → Word) (s : State) (c w : ℕ)
 
     put : Put r T (changed T g w) s c n code content after
     put = record {
-      lines = lines;
-      within = was.in_memory c n kept;
       frames = frames;
       code_fits = ⊎_elim (λ t. rw (cond-true _ _ _ t) law.own_fits) (λ f. rw (cond-false _ _ _ f) (was.codes c (n % 16))) (cases_Bool claim);
       true_content = changed_content T g w own.content (was.true_copies c n kept);

@@ -35,9 +35,8 @@ module _ (r : Rules) (m : TaggedMemory) (s : State) (was : Sound r m s) where
   granted_sound c None e some core quiet = absurd (both_ways false refl some)
   granted_sound c (Some x) e some core quiet = record {
     few_cores = was.few_cores;
-    copies = same_frames r m.word s (with_bus s (granted (record { core = c; entry = x }))) refl (λ d i. refl) (λ n. refl) (λ n q. free_quiet s.bus n quiet) was.copies;
+    copies = same_frames r m.word s (with_bus s (granted (record { core = c; entry = x }))) (λ d i. refl) (λ n. refl) (λ n q. free_quiet s.bus n quiet) was.copies;
     bus = tt;
-    in_memory = was.in_memory;
     notes = was.notes;
     tenure = record { core = core; present = ready_present [] (s.waiting c) x e };
     sleepers = was.sleepers;
@@ -64,9 +63,8 @@ module _ (r : Rules) (m : TaggedMemory) (s : State) (was : Sound r m s) where
       let q = and_parts (eqb slip.board s.setup.board) _ (and_parts (same_stage slip.stage to_snoop) _ mine).1 in
       record {
         few_cores = was.few_cores;
-        copies = same_frames r m.word s (with_bus s free) refl (λ d i. refl) (λ n. refl) (λ n e. granted_quiet s.bus slip.number q.1 n) was.copies;
+        copies = same_frames r m.word s (with_bus s free) (λ d i. refl) (λ n. refl) (λ n e. granted_quiet s.bus slip.number q.1 n) was.copies;
         bus = tt;
-        in_memory = was.in_memory;
         notes = was.notes;
         tenure = tt;
         sleepers = was.sleepers;
@@ -95,9 +93,8 @@ module _ (r : Rules) (m : TaggedMemory) (s : State) (was : Sound r m s) where
       let clear = cleared (withdraw_reasons s k) none in
       record {
         few_cores = was.few_cores;
-        copies = same_frames r m.word s (withdrawn_state s k) refl (λ d i. refl) (λ n. refl) (λ n e. e) was.copies;
+        copies = same_frames r m.word s (withdrawn_state s k) (λ d i. refl) (λ n. refl) (λ n e. e) was.copies;
         bus = bus_kept r m.word s (withdrawn_state s k) (λ d i. refl) s.bus was.bus;
-        in_memory = was.in_memory;
         notes = λ c.
             ⊎_elim
             (λ same. subst (EveryEntry (Noted m s.next c)) (sym (ap (updated s.waiting (holder s k) (without k (s.waiting (holder s k)))) same ∙ updated_same s.waiting (holder s k) _)) (every_without (Noted m s.next c) k (s.waiting (holder s k)) (subst (λ d. EveryEntry (Noted m s.next c) (s.waiting d)) same (was.notes c))))

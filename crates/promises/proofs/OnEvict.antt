@@ -47,7 +47,6 @@ module _ (r : Rules) (law : Lawful r) (m : TaggedMemory) (s : State) (was : Soun
         few_cores = was.few_cores;
         copies = evict_copies r law m.word s c w was.copies kept;
         bus = evict_bus c w kept s.bus clear.1.1.1.0 was.bus;
-        in_memory = was.in_memory;
         notes = was.notes;
         tenure = tenure_kept c w s.bus was.tenure;
         sleepers = was.sleepers;
@@ -67,7 +66,6 @@ module _ (r : Rules) (law : Lawful r) (m : TaggedMemory) (s : State) (was : Soun
         few_cores = was.few_cores;
         copies = drain_copies r law m.word s was.copies quiet;
         bus = (drain_free s.bus quiet).0;
-        in_memory = was.in_memory;
         notes = was.notes;
         tenure = (drain_free s.bus quiet).1;
         sleepers = was.sleepers;

@@ -1,6 +1,6 @@
 -- Issue.
-use Rattle.std.proofs.Common.{◌≡◌, ℕ, ◌+◌, ◌*◌, ◌%◌, ◌<◌, Bool, true, false, cond, not, ◌&&◌, ◌⊎◌, Some, Ok, sym, refl, ap, ◌∙◌, subst, ⊎_elim, arith}
-use Rattle.std.proofs.lemmas.Bool.{cases_eq, cases_Bool, leb-false, not-true, not_from_true, and_parts, and_from, and_cases, or_cases, both_ways, cond-true, cond-false}
+use Rattle.std.proofs.Common.{◌≡◌, ℕ, ◌+◌, ◌%◌, ◌<◌, Bool, true, false, cond, not, ◌&&◌, ◌⊎◌, Some, Ok, sym, refl, ap, ◌∙◌, subst, ⊎_elim, arith}
+use Rattle.std.proofs.lemmas.Bool.{cases_eq, cases_Bool, not-true, not_from_true, and_parts, and_from, and_cases, or_cases, both_ways, cond-true, cond-false}
 use Rattle.protocol.specs.Rules.{Rules, Lawful}
 use Rattle.tagged.specs.declared.answers.Answer.{Answer}
 use Rattle.tagged.specs.declared.operations.Operation.{Operation}
@@ -12,11 +12,10 @@ use Rattle.tagged.specs.Operations.{claims, class_of, operation_coded}
 use Rattle.tagged.specs.Rule.{unmet_outcome}
 use Rattle.tagged.specs.declared.operations.Class.{Class}
 use Rattle.tagged.specs.declared.operations.Class.TheVariants.{Unconditional, Waiting, NonFaulting, Trapping}
-use Rattle.promises.specs.Board.{word_in, with_word_in, served_lines}
+use Rattle.promises.specs.Board.{word_in, with_word_in}
 use Rattle.promises.specs.Calls.{OrRefused, issue}
 use Rattle.promises.specs.Copies.{copy, keeps, owns}
 use Rattle.promises.specs.Lists.{on_word, any_entry, wake}
-use Rattle.promises.specs.Refusing.{issue_reasons}
 use Rattle.promises.specs.Steps.{Step, updated, gives_up, own_word, own_met, in_reach, answers_now, issue_served, issue_now, issue_later, issue_answer, issue_refusal}
 use Rattle.promises.specs.OneMemory.{TaggedMemory, note, serve_noted, decide, is_answer, feed, line_by_words}
 use Rattle.promises.specs.Promises.{EveryEntry}
@@ -31,7 +30,7 @@ use Rattle.promises.proofs.OnBus.{bus_kept}
 use Rattle.promises.proofs.OnSettle.{noted_wake}
 use Rattle.promises.proofs.OnSnoop.{unmet_word}
 use Rattle.promises.proofs.Sleeping.{SleepsRight, woken_right, rule_tells}
-use Rattle.promises.proofs.Sound.{Noted, OnALine, WaitsIn, TenureWaits, Sound, same_frames, cleared, step_sound}
+use Rattle.promises.proofs.Sound.{Noted, WaitsIn, TenureWaits, Sound, same_frames, step_sound}
 
 -- an operation that is unmet, or no claim, leaves the word
 pub rule_stays : (o : Operation) (x : Word) (v : ℕ) → (met o x.state && claims o) ≡ false → (rule o x v).word ≡ x
@@ -52,14 +51,6 @@ module _ (r : Rules) (law : Lawful r) (m : TaggedMemory) (s : State) (was : Soun
   -- notes of waiting requests stay: their numbers were given before
   old_note : (d : ℕ) (e : Entry) → Noted m s.next d e → Noted noting (s.next + 1) d e
   old_note d e h = record { note = updated_other m.noted s.next e.number _ (λ same. omega (arith, h.below)) ∙ h.note; below = omega (arith, h.below) }
-
-  -- a new request on a line of the memory leaves all that is noted there
-  still_in_memory : line_of w < s.setup.lines → (k : ℕ) → OnALine s.setup.lines (noting.noted k)
-  still_in_memory within k =
-      ⊎_elim
-      (λ same. subst (OnALine s.setup.lines) (sym (ap noting.noted same ∙ updated_same m.noted s.next _)) within)
-      (λ ne. subst (OnALine s.setup.lines) (sym (updated_other m.noted s.next k _ ne)) (was.in_memory k))
-      (cases_eq k s.next)
 
   -- LATER: the request waits
   later_present : (t : Tenure) → WaitsIn s t → WaitsIn (issue_later r s c o w v) t
@@ -84,12 +75,11 @@ module _ (r : Rules) (law : Lawful r) (m : TaggedMemory) (s : State) (was : Soun
       let kept = (and_parts (not (any_entry (on_word w) (s.waiting c))) _ p.0).1 in
       sym (ap (λ f. met o (word_in f w).state) (was.copies.true_copies c (line_of w) kept) ∙ ap (λ (x : Word). met o x.state) (line_word T w)) ∙ not-true _ p.1
 
-  later_sound : line_of w < s.setup.lines → Sound r noting (issue_later r s c o w v)
-  later_sound within = record {
+  later_sound : Sound r noting (issue_later r s c o w v)
+  later_sound = record {
     few_cores = was.few_cores;
-    copies = same_frames r T s (issue_later r s c o w v) refl (λ d i. refl) (λ n. refl) (λ n e. e) was.copies;
+    copies = same_frames r T s (issue_later r s c o w v) (λ d i. refl) (λ n. refl) (λ n e. e) was.copies;
     bus = bus_kept r T s (issue_later r s c o w v) (λ d i. refl) s.bus was.bus;
-    in_memory = still_in_memory within;
     notes = λ d.
         ⊎_elim
         (λ same.
@@ -145,7 +135,7 @@ module _ (r : Rules) (law : Lawful r) (m : TaggedMemory) (s : State) (was : Soun
     after = issue_now r s c o w v
 
     copies : Copies r (changed T g w) after
-    copies = changed_in_place r law T s c w g claim after was.copies kept sole stays refl (λ d j. refl) (λ x. refl) (λ x e. e)
+    copies = changed_in_place r law T s c w g claim after was.copies kept sole stays (λ d j. refl) (λ x. refl) (λ x e. e)
 
     abbrev filled : Frame
     filled = record { code = cond claim r.own_claim (copy s c n).code; line = (copy s c n).line; content = with_word_in (copy s c n).content w (g (own_word r s c o w v)) }
@@ -232,12 +222,11 @@ module _ (r : Rules) (law : Lawful r) (m : TaggedMemory) (s : State) (was : Soun
     fresh : noting.noted s.next ≡ Some (record { core = c; operation = o; word = w; value = v })
     fresh = updated_same m.noted s.next _
 
-    now_sound : line_of w < s.setup.lines → Sound r deciding after
-    now_sound within = record {
+    now_sound : Sound r deciding after
+    now_sound = record {
       few_cores = was.few_cores;
       copies = subst (λ X. Copies r X after) (sym word) copies;
       bus = subst (λ X. BusTrue r X after s.bus) (sym word) (now_bus s.bus was.tenure was.bus);
-      in_memory = λ k. subst (OnALine s.setup.lines) (sym (ap (λ x. (serve_noted noting s.next x).noted k) fresh)) (still_in_memory within k);
       notes = λ d. every_map (Noted m s.next d) (Noted deciding (s.next + 1) d) _ (λ e h. noted_again d _ (noted_wake noting (s.next + 1) d _ _ e (old_note d e h))) (s.waiting d) (was.notes d);
       tenure = now_tenure s.bus was.tenure;
       sleepers = λ d. subst (λ X. EveryEntry (SleepsRight X) (after.waiting d)) (sym word) (every_map (SleepsRight T) (SleepsRight (changed T g w)) (wake (issue_served r s c o w v).notice w) (λ e h. woken_right T w (g (T w)) _ (ap (λ x. (rule o x v).notice) own_is ∙ rule_tells o (T w) v) e h) (s.waiting d) (was.sleepers d));
@@ -264,18 +253,15 @@ module _ (r : Rules) (law : Lawful r) (m : TaggedMemory) (s : State) (was : Soun
         gives_up_answers Trapping e = refl
 
 module _ (r : Rules) (law : Lawful r) (m : TaggedMemory) (s : State) (was : Sound r m s) where
-  issued : (c k w v : ℕ) → line_of w < s.setup.lines → Sound r (feed m (issue c k w v (Ok (issue_answer r s c (operation_coded k) w v)))) (cond (answers_now r s c (operation_coded k) w v) (issue_now r s c (operation_coded k) w v) (issue_later r s c (operation_coded k) w v))
-  issued c k w v within =
+  issued : (c k w v : ℕ) → Sound r (feed m (issue c k w v (Ok (issue_answer r s c (operation_coded k) w v)))) (cond (answers_now r s c (operation_coded k) w v) (issue_now r s c (operation_coded k) w v) (issue_later r s c (operation_coded k) w v))
+  issued c k w v =
       by_cond (answers_now r s c (operation_coded k) w v) _ _ _ _ (λ a t. Sound r (feed m (issue c k w v (Ok a))) t)
-      (λ y. subst (λ n. Sound r n (issue_now r s c (operation_coded k) w v)) (sym (cond-true (is_answer (issue_served r s c (operation_coded k) w v).outcome) _ _ (answers r law m s was c (operation_coded k) w v y))) (now_sound r law m s was c (operation_coded k) w v y within))
-      (λ z. later_sound r law m s was c (operation_coded k) w v within)
+      (λ y. subst (λ n. Sound r n (issue_now r s c (operation_coded k) w v)) (sym (cond-true (is_answer (issue_served r s c (operation_coded k) w v).outcome) _ _ (answers r law m s was c (operation_coded k) w v y))) (now_sound r law m s was c (operation_coded k) w v y))
+      (λ z. later_sound r law m s was c (operation_coded k) w v)
     where
       by_cond : (b : Bool) (x y : Answer) (p q : State) (P : Answer → State → Type 0) → (b ≡ true → P x p) → (b ≡ false → P y q) → P (cond b x y) (cond b p q)
       by_cond true x y p q P f g = f refl
       by_cond false x y p q P f g = g refl
 
   pub issue_sound : (c k w v : ℕ) (a : OrRefused Answer) (t : State) → Step r s (issue c k w v a) t → Sound r (feed m (issue c k w v a)) t
-  issue_sound c k w v a t step = step_sound r m s t _ (issue c k w v) (issue_refusal r s c k w v) _ a step.0 step.1 was (λ e. refl)
-      (λ none.
-      let served = leb-false (4 * served_lines s) w (cleared (issue_reasons s _ c k w) none).1.1.0 in
-      issued c k w v (omega (arith, served)))
+  issue_sound c k w v a t step = step_sound r m s t _ (issue c k w v) (issue_refusal r s c k w v) _ a step.0 step.1 was (λ e. refl) (λ none. issued c k w v)

@@ -1,5 +1,5 @@
 -- Settle.
-use Rattle.std.proofs.Common.{◌≡◌, ℕ, ◌<◌, ◌≤◌, true, false, eqb, List, [], ◌∷◌, map, Some, None, Ok, sym, refl, ap, ◌∙◌, subst, ⊎_elim}
+use Rattle.std.proofs.Common.{◌≡◌, ℕ, ◌≤◌, true, false, eqb, List, [], ◌∷◌, map, Some, None, Ok, sym, refl, ap, ◌∙◌, subst, ⊎_elim}
 use Rattle.std.proofs.lemmas.Bool.{cases_eq, cases_Bool, not-false, and_parts, both_ways, cond-true, cond-false}
 use Rattle.protocol.specs.Rules.{Rules, Lawful}
 use Rattle.tagged.specs.declared.answers.Answer.{Answer}
@@ -20,7 +20,7 @@ use Rattle.promises.proofs.Copies.{claiming, Copies}
 use Rattle.promises.proofs.Entries.{wake_cases, every_map, every_without}
 use Rattle.promises.proofs.Tenures.{Met, FoundTrue, BusTrue}
 use Rattle.promises.proofs.Settling.{served, settle_hit, settle_read, settle_claim}
-use Rattle.promises.proofs.Sound.{Noted, OnALine, WaitsIn, TenureWaits, Sound, same_frames, tenure_noted, cleared, step_sound, refused_sound}
+use Rattle.promises.proofs.Sound.{Noted, WaitsIn, TenureWaits, Sound, same_frames, tenure_noted, cleared, step_sound, refused_sound}
 
 -- a note stays true of a request that wakes
 pub noted_wake : (m : TaggedMemory) (next c : ℕ) (n : Notice) (w : ℕ) (e : Entry) → Noted m next c e → Noted m next c (wake n w e)
@@ -36,9 +36,6 @@ module _ (r : Rules) (law : Lawful r) (m : TaggedMemory) (s : State) (was : Soun
 
     noted : m.noted t.entry.number ≡ Some (record { core = t.core; operation = t.entry.operation; word = t.entry.word; value = t.entry.value })
     noted = (tenure_noted r m s t was here).note
-
-    within : line_of t.entry.word < s.setup.lines
-    within = subst (OnALine s.setup.lines) noted (was.in_memory t.entry.number)
 
     -- the lists without the request keep their notes
     rest_noted : (c : ℕ) → EveryEntry (Noted m s.next c) (updated s.waiting t.core (without t.entry.number (s.waiting t.core)) c)
@@ -77,7 +74,6 @@ module _ (r : Rules) (law : Lawful r) (m : TaggedMemory) (s : State) (was : Soun
       few_cores = subst (λ x. x.cores ≤ 8) (sym setup) was.few_cores;
       copies = subst (λ T. Copies r T after) (sym (served_word is)) copies;
       bus = subst (BusTrue r (decide m t.entry.number).word after) (sym quiet) tt;
-      in_memory = λ k. subst (λ x. OnALine x.lines ((decide m t.entry.number).noted k)) (sym setup) (subst (λ f. OnALine s.setup.lines (f k)) (sym served_noted) (was.in_memory k));
       notes = λ c. subst (λ x. EveryEntry (Noted (decide m t.entry.number) x c) (after.waiting c)) (sym next) (every_again c (after.waiting c) (lists c));
       tenure = subst (TenureWaits after) (sym quiet) tt;
       sleepers = λ c. subst (λ T. EveryEntry (SleepsRight T) (after.waiting c)) (sym (served_word is)) (asleep c);
@@ -96,21 +92,20 @@ module _ (r : Rules) (law : Lawful r) (m : TaggedMemory) (s : State) (was : Soun
       (done_asleep t own_copy bus _ (was.copies.true_copies t.core _ h.0.kept))
   settled t (read_in shared f) bus =
       let h = found t (read_in shared f) bus in
-      done_sound t (read_in shared f) bus h.1 _ (settle_read r law m.word s t was.copies (here t (read_in shared f) bus).core f (r.read_fill shared) h.0.line (law.fill_fits shared) (within t (read_in shared f) bus) shared bus refl h.0) refl refl refl
+      done_sound t (read_in shared f) bus h.1 _ (settle_read r law m.word s t was.copies (here t (read_in shared f) bus).core f (r.read_fill shared) h.0.line (law.fill_fits shared) shared bus refl h.0) refl refl refl
       (λ c. every_map (Noted m s.next c) (Noted m s.next c) _ (λ e n. noted_wake m s.next c _ _ e n) _ (rest_noted t (read_in shared f) bus c))
       (done_asleep t (read_in shared f) bus _ h.0.line)
   settled t (claimed f) bus =
       let h = found t (claimed f) bus in
-      done_sound t (claimed f) bus h.1 _ (settle_claim r law m.word s t was.copies (here t (claimed f) bus).core f r.own_claim h.0.line law.own_fits (within t (claimed f) bus) bus h.0) refl refl refl
+      done_sound t (claimed f) bus h.1 _ (settle_claim r law m.word s t was.copies (here t (claimed f) bus).core f r.own_claim h.0.line law.own_fits bus h.0) refl refl refl
       (λ c. every_map (Noted m s.next c) (Noted m s.next c) _ (λ e n. noted_wake m s.next c _ _ e n) _ (rest_noted t (claimed f) bus c))
       (done_asleep t (claimed f) bus _ h.0.line)
   settled t (unmet o x) bus =
       subst (λ n. Sound r n (settle_state r s t (unmet o x))) (sym (cond-false (is_done o) _ m (found t (unmet o x) bus)))
       (record {
         few_cores = was.few_cores;
-        copies = same_frames r m.word s (settle_state r s t (unmet o x)) refl (λ d i. refl) (λ n. refl) (λ n q. ap (λ b. claiming b n) bus) was.copies;
+        copies = same_frames r m.word s (settle_state r s t (unmet o x)) (λ d i. refl) (λ n. refl) (λ n q. ap (λ b. claiming b n) bus) was.copies;
         bus = tt;
-        in_memory = was.in_memory;
         notes = λ c.
             ⊎_elim
             (λ e. subst (λ (g : ℕ → List Entry). EveryEntry (Noted m s.next c) (g c)) (sym (cond-true (is_waits s t o o) s.waiting _ e)) (was.notes c))

@@ -91,7 +91,6 @@ module _ (r : Rules) (law : Lawful r) (m : TaggedMemory) (s : State) (was : Soun
       few_cores = was.few_cores;
       copies = snoop_copies r law m.word s t was.copies quiet;
       bus = snoop_finds r law m.word s t was.copies (travels_true r m.word s s.bus was.bus) quiet;
-      in_memory = was.in_memory;
       notes = lists;
       tenure = record { core = here.core; present = present };
       sleepers = asleep;

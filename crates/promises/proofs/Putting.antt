@@ -1,5 +1,5 @@
 -- A line is put into a frame, perhaps with a changed word.
-use Rattle.std.proofs.Common.{◌≡◌, ℕ, ◌%◌, ◌<◌, true, false, ◌⊎◌, sym, ap, ◌∙◌, subst, inl, inr, ⊎_elim}
+use Rattle.std.proofs.Common.{◌≡◌, ℕ, ◌%◌, ◌<◌, true, false, ◌⊎◌, sym, ap, ◌∙◌, inl, inr, ⊎_elim}
 use Rattle.std.proofs.lemmas.Bool.{cases_eq, and_parts}
 use Rattle.protocol.specs.Rules.{Rules}
 use Rattle.tagged.specs.declared.words.Word.{Word}
@@ -13,8 +13,6 @@ use Rattle.promises.proofs.Copies.{claiming, Copies, owns_same}
 
 -- core c's frame for line n now holds it with this code and content; T' are the words afterwards
 pub record Put (r : Rules) (T T' : ℕ → Word) (s : State) (c n code : ℕ) (content : Content) (after : State) : Type 0 where
-  pub lines : after.setup.lines ≡ s.setup.lines
-  pub within : n < s.setup.lines
   pub frames : (d j : ℕ) → after.frame d j ≡ updated_frame s.frame c (frame_of n) (record { code = code; line = n; content = content }) d j
   pub code_fits : code < 256
   pub true_content : content ≡ line_by_words T' n
@@ -42,11 +40,6 @@ module _ (r : Rules) (T T' : ℕ → Word) (s : State) (c n code : ℕ) (content
 
   kept_before : (d m : ℕ) → copy after d m ≡ copy s d m → keeps r after d m ≡ true → keeps r s d m ≡ true
   kept_before d m e k = sym (keeps_same r after s d m e) ∙ k
-
-  put_in_memory : (d m : ℕ) → keeps r after d m ≡ true → m < after.setup.lines
-  put_in_memory d m k =
-      subst (λ l. m < l) (sym put.lines)
-      (⊎_elim (λ p. subst (λ l. l < s.setup.lines) (sym (new_line d m p.2 k)) put.within) (λ p. was.in_memory d m (kept_before d m p.1 k)) (put_cases d m))
 
   put_true : (d m : ℕ) → keeps r after d m ≡ true → (copy after d m).content ≡ line_by_words T' m
   put_true d m k =
@@ -87,7 +80,6 @@ module _ (r : Rules) (T T' : ℕ → Word) (s : State) (c n code : ℕ) (content
         ⊎_elim (λ p. ap (λ (f : Frame). f.line % 16) (put.frames d i ∙ p.2) ∙ sym p.1)
         (λ p. ap (λ (f : Frame). f.line % 16) (put.frames d i ∙ p.1) ∙ was.placed d i (sym (ap (λ (f : Frame). r.kept f.code) (put.frames d i ∙ p.1)) ∙ k))
         (frame_cases s.frame c (frame_of n) new d i);
-    in_memory = put_in_memory;
     true_copies = put_true;
     alone = put_alone;
     true_memory = put.true_memory;

@@ -47,7 +47,7 @@ module _ (r : Rules) (law : Lawful r) (T : ℕ → Word) (s : State) (t : Tenure
   settle_hit bus hits =
       changed_in_place r law T s t.core t.entry.word serve (claims o) (settle_state r s t own_copy) was hits.kept hits.sole
       (unclaimed_word o (T t.entry.word) t.entry.value)
-      refl (λ d j. refl) (λ m. refl) (λ m quiet. ap (λ b. claiming b m) bus)
+      (λ d j. refl) (λ m. refl) (λ m quiet. ap (λ b. claiming b m) bus)
 
   -- KINDS 1 AND 2: another line in the frame goes first
   abbrev out : Frame
@@ -124,7 +124,7 @@ module _ (r : Rules) (law : Lawful r) (T : ℕ → Word) (s : State) (t : Tenure
           (cases_eq d t.core)
 
   -- the fetched line f is put in, with this code unless the operation is a claim
-  module _ (f : Content) (fill : ℕ) (line : f ≡ line_by_words T n) (fill_fits : fill < 256) (within : n < s.setup.lines) where
+  module _ (f : Content) (fill : ℕ) (line : f ≡ line_by_words T n) (fill_fits : fill < 256) where
     abbrev fetched_state : State
     fetched_state = settled_state r s t f n fill (memory_without_victim r s t)
 
@@ -159,8 +159,6 @@ module _ (r : Rules) (law : Lawful r) (T : ℕ → Word) (s : State) (t : Tenure
 
         put : Fetch
         put = record {
-          lines = refl;
-          within = within;
           frames = λ d j. refl;
           code_fits = rw (cond-false (claims o) r.own_claim fill c) fill_fits;
           true_content = changed_content T serve t.entry.word f line;
@@ -186,8 +184,6 @@ module _ (r : Rules) (law : Lawful r) (T : ℕ → Word) (s : State) (t : Tenure
 
         put : Fetch
         put = record {
-          lines = refl;
-          within = within;
           frames = λ d j. refl;
           code_fits = rw (cond-true (claims o) r.own_claim fill c) law.own_fits;
           true_content = changed_content T serve t.entry.word f line;

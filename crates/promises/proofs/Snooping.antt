@@ -10,7 +10,7 @@ use Rattle.promises.specs.Steps.{updated, own_suffices, fetches, snoop_met, snoo
 use Rattle.promises.specs.OneMemory.{line_by_words}
 use Rattle.promises.proofs.Contents.{updated_same, updated_other}
 use Rattle.promises.proofs.Frames.{kept_of, keeps_by, keeps_same, lowest_passes, none_passes}
-use Rattle.promises.proofs.Copies.{claiming, Copies, Fewer, fewer_in_memory, fewer_true, fewer_alone, one_line, owes_same, owns_same}
+use Rattle.promises.proofs.Copies.{claiming, Copies, Fewer, fewer_true, fewer_alone, one_line, owes_same, owns_same}
 
 module _ (r : Rules) (law : Lawful r) (T : ℕ → Word) (s : State) (t : Tenure) (was : Copies r T s) where
   abbrev n : ℕ
@@ -161,12 +161,6 @@ module _ (r : Rules) (law : Lawful r) (T : ℕ → Word) (s : State) (t : Tenure
       paid : Bool
       paid = fetches r s t && (not (claims t.entry.operation) && any_core (pays r s t))
 
-      -- the copy that is written is kept
-      payer : paid ≡ true → keeps r s (lowest (pays r s t)) n ≡ true
-      payer e =
-          let low = lowest_passes (pays r s t) (and_parts (not (claims t.entry.operation)) (any_core (pays r s t)) (and_parts (fetches r s t) _ e).1).1 in
-          (and_parts (not (eqb (lowest (pays r s t)) t.core)) _ (and_parts (others_keep r s t.core n (lowest (pays r s t))) _ low.0).0).1
-
       written : paid ≡ true → after.memory ≡ updated s.memory n (copy s (lowest (pays r s t)) n).content
       written e = cond-true _ _ _ e
 
@@ -188,7 +182,9 @@ module _ (r : Rules) (law : Lawful r) (T : ℕ → Word) (s : State) (t : Tenure
       here e =
           ⊎_elim
           (λ yes_paid.
-          ap (λ (f : ℕ → Content). f m) (written yes_paid) ∙ ap (updated s.memory n (copy s (lowest (pays r s t)) n).content) e ∙ updated_same s.memory n _ ∙ was.true_copies _ n (payer yes_paid) ∙ ap (line_by_words T) (sym e))
+          let low = lowest_passes (pays r s t) (and_parts _ _ (and_parts (fetches r s t) _ yes_paid).1).1 in
+          let keeper = (and_parts (not (eqb (lowest (pays r s t)) t.core)) _ (and_parts (others_keep r s t.core n (lowest (pays r s t))) _ low.0).0).1 in
+          ap (λ (f : ℕ → Content). f m) (written yes_paid) ∙ ap (updated s.memory n (copy s (lowest (pays r s t)) n).content) e ∙ updated_same s.memory n _ ∙ was.true_copies _ n keeper ∙ ap (line_by_words T) (sym e))
           (λ unpaid.
           ap (λ (f : ℕ → Content). f m) (unwritten unpaid)
           ∙ was.true_memory m
@@ -213,7 +209,6 @@ module _ (r : Rules) (law : Lawful r) (T : ℕ → Word) (s : State) (t : Tenure
   snoop_copies quiet = record {
     codes = snoop_codes;
     placed = snoop_placed;
-    in_memory = fewer_in_memory r T s after was snoop_fewer;
     true_copies = fewer_true r T s after was snoop_fewer;
     alone = fewer_alone r T s after was snoop_fewer;
     true_memory = snoop_memory quiet;

@@ -4,7 +4,7 @@ use Rattle.std.proofs.lemmas.Bool.{cases_Bool, cond-true, cond-false}
 use Rattle.protocol.specs.Rules.{Rules}
 use Rattle.tagged.specs.declared.refusals.Refusal.{Refusal}
 use Rattle.tagged.specs.declared.words.Word.{Word}
-use Rattle.promises.specs.Board.{Frame, Entry, Tenure, Bus, free, granted, snooped, State, line_of}
+use Rattle.promises.specs.Board.{Frame, Entry, Tenure, Bus, free, granted, snooped, State}
 use Rattle.promises.specs.Calls.{OrRefused, Call}
 use Rattle.promises.specs.Refusing.{Reasons, first_reason, reply_unless, after_unless}
 use Rattle.promises.specs.Steps.{Agree}
@@ -25,11 +25,6 @@ pub record Noted (m : TaggedMemory) (next c : ℕ) (e : Entry) : Type 0 where
   pub note : m.noted e.number ≡ Some (note_of c e)
   pub below : e.number < next
 
--- what is noted is on one of this many lines
-abbrev pub OnALine : ℕ → Option Note → Type 0
-OnALine lines None = Unit {0}
-OnALine lines (Some x) = line_of x.word < lines
-
 -- the request that has the bus waits in its core's list
 pub record WaitsIn (s : State) (t : Tenure) : Type 0 where
   pub core : t.core < 8
@@ -44,7 +39,6 @@ pub record Sound (r : Rules) (m : TaggedMemory) (s : State) : Type 0 where
   pub few_cores : s.setup.cores ≤ 8
   pub copies : Copies r m.word s
   pub bus : BusTrue r m.word s s.bus
-  pub in_memory : (k : ℕ) → OnALine s.setup.lines (m.noted k)
   pub notes : (c : ℕ) → EveryEntry (Noted m s.next c) (s.waiting c)
   pub tenure : TenureWaits s s.bus
   pub sleepers : (c : ℕ) → EveryEntry (SleepsRight m.word) (s.waiting c)
@@ -55,7 +49,6 @@ same_memory r m n s word noted was = record {
   few_cores = was.few_cores;
   copies = subst (λ T. Copies r T s) (sym word) was.copies;
   bus = subst (λ T. BusTrue r T s s.bus) (sym word) was.bus;
-  in_memory = subst (λ f. (k : ℕ) → OnALine s.setup.lines (f k)) (sym noted) was.in_memory;
   notes = λ c. every_weaker (Noted m s.next c) (Noted n s.next c) (λ e h. record { note = ap (λ f. f e.number) noted ∙ h.note; below = h.below }) (s.waiting c) (was.notes c);
   tenure = was.tenure;
   sleepers = λ c. subst (λ T. EveryEntry (SleepsRight T) (s.waiting c)) (sym word) (was.sleepers c);
@@ -72,12 +65,11 @@ tenure_noted r m s t was here =
     (was.notes t.core) here.present
 
 -- the same frames and memory, and no line more that is not being claimed
-module _ (r : Rules) (T : ℕ → Word) (s t : State) (lines : t.setup.lines ≡ s.setup.lines) (frames : (d i : ℕ) → t.frame d i ≡ s.frame d i) (memory : (n : ℕ) → t.memory n ≡ s.memory n) (bus : (n : ℕ) → claiming t.bus n ≡ false → claiming s.bus n ≡ false) where
+module _ (r : Rules) (T : ℕ → Word) (s t : State) (frames : (d i : ℕ) → t.frame d i ≡ s.frame d i) (memory : (n : ℕ) → t.memory n ≡ s.memory n) (bus : (n : ℕ) → claiming t.bus n ≡ false → claiming s.bus n ≡ false) where
   pub same_frames : Copies r T s → Copies r T t
   same_frames was = record {
     codes = λ d i. subst (λ (f : Frame). f.code < 256) (sym (frames d i)) (was.codes d i);
     placed = λ d i. subst (λ (f : Frame). r.kept f.code ≡ true → f.line % 16 ≡ i) (sym (frames d i)) (was.placed d i);
-    in_memory = λ d n k. subst (λ l. n < l) (sym lines) (was.in_memory d n (sym (keeps_same r t s d n (frames d (n % 16))) ∙ k));
     true_copies = λ d n k. ap (λ (f : Frame). f.content) (frames d (n % 16)) ∙ was.true_copies d n (sym (keeps_same r t s d n (frames d (n % 16))) ∙ k);
     alone = λ c d n own k. was.alone c d n (sym (owns_same r t s c n (frames c (n % 16))) ∙ own) (sym (keeps_same r t s d n (frames d (n % 16))) ∙ k);
     true_memory = λ n none quiet. memory n ∙ was.true_memory n (λ d. sym (owes_same r t s d n (frames d (n % 16))) ∙ none d) (bus n quiet);
