@@ -1,12 +1,16 @@
 -- What was carried out: each face with its tolerance and the two requests that brought it.
-use Rattle.std.specs.Prelude.{◌≡◌, ℕ, ◌+◌, ◌^◌, ◌≤◌, List, [], ◌∷◌, ◌++◌, map, codes, decimal}
+use Rattle.std.specs.Prelude.{◌≡◌, ℕ, ◌+◌, ◌^◌, ◌≤◌, Bool, true, false, List, [], ◌∷◌, ◌++◌, map, codes, decimal}
+use Rattle.tagged.specs.Refusals.{refusal_number}
 use Rattle.tagged.specs.Words.{with_word}
 use Rattle.tagged.specs.declared.refusals.Refusal.{Refusal}
 use Rattle.tagged.specs.declared.refusals.Refusal.TheVariants.{NumbersUsedUp}
 use Rattle.tagged.specs.declared.words.WordState.TheVariants.{Empty}
+use Rattle.mould.specs.declared.exchange.Fault.{Fault}
+use Rattle.mould.specs.declared.exchange.Fault.TheVariants.{NoMemory, Rejected}
 use Rattle.mould.specs.declared.exchange.Handed.{Handed}
 use Rattle.mould.specs.declared.exchange.words.Words.{Words}
 use Rattle.mould.specs.declared.plan.Face.{Face}
+use Rattle.mould.specs.declared.report.Totals.{Totals}
 
 -- request n fills the word, and request n + 1 takes it
 abbrev pub handed_by : ℕ → Face → Handed
@@ -40,3 +44,17 @@ KeepsItsTolerance fs hs = map as_face hs ≡ fs
 -- the line that is printed of it
 abbrev pub shown_handed : Handed → List ℕ
 shown_handed h = codes "face " ++ (decimal h.face ++ (codes ": tolerance " ++ (decimal h.tolerance ++ (codes ", filled by request " ++ (decimal h.filled ++ (codes ", taken by request " ++ decimal h.taken))))))
+
+-- whether the tolerances were kept, in words
+abbrev pub shown_kept : Bool → List ℕ
+shown_kept true = codes "each face kept its tolerance"
+shown_kept false = codes "a face lost its tolerance"
+
+-- the closing line
+abbrev pub shown_totals : Totals → List ℕ
+shown_totals t = decimal t.faces ++ (codes " faces, " ++ (decimal t.requests ++ (codes " requests: " ++ shown_kept t.kept)))
+
+-- what is said of a hand-over that ended early
+abbrev pub shown_fault : Fault → List ℕ
+shown_fault NoMemory = codes "there is not enough memory"
+shown_fault (Rejected refusal) = codes "a request was refused with number " ++ decimal (refusal_number refusal)

@@ -1,7 +1,7 @@
 // The hand-over through bare tagged words, one face at a time.
-ghost use Rattle.std.specs.Prelude.{◌≡◌, ◌+◌, ◌*◌, ◌^◌, ◌≤◌, length, IfOk, Err, MatchResult};
+ghost use Rattle.std.specs.Prelude.{◌≡◌, ◌+◌, ◌*◌, ◌^◌, ◌≤◌, length, IfOk, Err, MatchResult, Some};
 ghost use Rattle.tagged.specs.Words.{blank};
-ghost use Rattle.mould.specs.Handed.{all_handed_from, KeepsItsTolerance, HandsOver, RunsOut};
+ghost use Rattle.mould.specs.Handed.{all_handed_from, KeepsItsTolerance, HandsOver, RunsOut, shown_fault};
 ghost use Rattle.mould.specs.declared.exchange.Fault.TheVariants.{NoMemory, Rejected};
 
 use crate::plan::Face;
@@ -79,6 +79,8 @@ pub enum Fault {
 }
 
 impl fmt::Display for Fault {
+    ghost output = { λ fault. Some (shown_fault fault) };
+
     fn fmt<W: fmt::Write>(&self, f: &mut fmt::Formatter<W>) -> fmt::Result {
         match self {
             Fault::NoMemory => write!(f, "there is not enough memory"),

@@ -1,6 +1,6 @@
 // What the shop reads of a hand-over.
 ghost use Rattle.std.specs.Prelude.{◌≡◌, ◌*◌, length, Some, Decides};
-ghost use Rattle.mould.specs.Handed.{KeepsItsTolerance, shown_handed};
+ghost use Rattle.mould.specs.Handed.{KeepsItsTolerance, shown_handed, shown_kept, shown_totals};
 
 use crate::exchange::Handed;
 use crate::plan::Face;
@@ -58,15 +58,24 @@ impl Totals {
     }
 }
 
+// Whether the tolerances were kept, in words.
+fn in_words(kept: bool) -> &'static str
+    ensures { result.now ≡ shown_kept kept }
+{
+    if kept {
+        "each face kept its tolerance"
+    } else {
+        "a face lost its tolerance"
+    }
+}
+
 impl fmt::Display for Totals {
+    ghost output = { λ t. Some (shown_totals t) };
+
     fn fmt<W: fmt::Write>(&self, f: &mut fmt::Formatter<W>) -> fmt::Result {
         let faces = self.faces;
         let requests = self.requests;
-        let kept = if self.kept {
-            "each face kept its tolerance"
-        } else {
-            "a face lost its tolerance"
-        };
+        let kept = in_words(self.kept);
         write!(f, "{faces} faces, {requests} requests: {kept}")
     }
 }
