@@ -106,7 +106,7 @@ fn state_byte(line: &Line) -> u8
     ensures { result ≡ state_byte line.now }
 {
     let [a, b, c, d] = line.states;
-    a.number() + b.number() * 2 + c.number() * 4 + d.number() * 8
+    u8::from(a) + u8::from(b) * 2 + u8::from(c) * 4 + u8::from(d) * 8
 }
 
 // Line `n` of a picture of `count` lines.

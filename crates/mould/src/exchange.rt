@@ -85,7 +85,7 @@ impl fmt::Display for Fault {
         match self {
             Fault::NoMemory => write!(f, "there is not enough memory"),
             Fault::Rejected(refusal) => {
-                let number = refusal.number();
+                let number = u8::from(*refusal);
                 write!(f, "a request was refused with number {number}")
             }
         }

@@ -131,7 +131,7 @@ module _ (h : List Call) (s : State) (was : Accounts h s) where
           number_length true = refl
           number_length false = refl
 
-      woken_left : (n : Notice) (F : List Entry → ℕ) (a : ℕ → ℕ) → Measure F a → over_cores (λ c. F (map (wake n t.entry.word) (updated s.waiting t.core (without t.entry.number (s.waiting t.core)) c))) + a t.entry.number ≡ over_cores (λ c. F (s.waiting c))
+      woken_left : (n : Option Notice) (F : List Entry → ℕ) (a : ℕ → ℕ) → Measure F a → over_cores (λ c. F (map (wake n t.entry.word) (updated s.waiting t.core (without t.entry.number (s.waiting t.core)) c))) + a t.entry.number ≡ over_cores (λ c. F (s.waiting c))
       woken_left n F a m = ap (λ x. x + a t.entry.number) (over_same _ _ (λ c. measure_wake m n t.entry.word (updated s.waiting t.core (without t.entry.number (s.waiting t.core)) c))) ∙ left F a m
 
       settled : (f : Found) → Accounts (settle slip (Ok (settle_answer r s t f)) ∷ h) (settle_state r s t f)

@@ -1,5 +1,5 @@
 -- Counts over the lists of waiting requests, by what each call adds and removes.
-use Rattle.std.proofs.Common.{◌≡◌, ℕ, zero, suc, ◌+◌, ◌<◌, true, false, cond, eqb, List, [], ◌∷◌, ◌++◌, map, length, sym, refl, ap, ◌∙◌, ⊎_elim, arith}
+use Rattle.std.proofs.Common.{◌≡◌, ℕ, zero, suc, ◌+◌, ◌<◌, true, false, cond, eqb, List, [], ◌∷◌, ◌++◌, map, length, Option, sym, refl, ap, ◌∙◌, ⊎_elim, arith}
 use Rattle.std.proofs.lemmas.Bool.{cases_Bool, eqb-true, both_ways, or_cases, cond-true, cond-false}
 use Rattle.std.proofs.lemmas.List.Sums.{sum_by-cons, sum_by-append}
 use Rattle.tagged.specs.declared.answers.Notice.{Notice}
@@ -16,7 +16,7 @@ pub record Measure (F : List Entry → ℕ) (a : ℕ → ℕ) : Type 0 where
   pub more : (e : Entry) (es : List Entry) → F (e ∷ es) ≡ a e.number + F es
 
 module _ {F : List Entry → ℕ} {a : ℕ → ℕ} (m : Measure F a) where
-  pub measure_wake : (n : Notice) (w : ℕ) (es : List Entry) → F (map (wake n w) es) ≡ F es
+  pub measure_wake : (n : Option Notice) (w : ℕ) (es : List Entry) → F (map (wake n w) es) ≡ F es
   measure_wake n w [] = refl
   measure_wake n w (e ∷ es) = m.more (wake n w e) _ ∙ (λ i. a (number i) + measure_wake n w es i) ∙ sym (m.more e es)
     where

@@ -1,5 +1,5 @@
 -- Facts on lists of waiting requests: what waking, sleeping, adding and removing keep.
-use Rattle.std.proofs.Common.{◌≡◌, ℕ, Bool, true, false, not, ◌&&◌, ◌⊎◌, List, [], ◌∷◌, ◌++◌, map, Some, None, sym, refl, ◌∙◌, subst, inl, inr, ⊎_elim, arith}
+use Rattle.std.proofs.Common.{◌≡◌, ℕ, Bool, true, false, not, ◌&&◌, ◌⊎◌, List, [], ◌∷◌, ◌++◌, map, Some, None, Option, sym, refl, ◌∙◌, subst, inl, inr, ⊎_elim, arith}
 use Rattle.std.proofs.lemmas.Bool.{cases_Bool, eq-eqb, eqb-true, or_left, or_right, cond-true, cond-false}
 use Rattle.tagged.specs.declared.answers.Notice.{Notice}
 use Rattle.promises.specs.Board.{Entry}
@@ -25,13 +25,13 @@ set_same : (x e : Entry) (b : Bool) → SameRequest x e → SameRequest x (set_a
 set_same x e b h = record { number = h.number; operation = h.operation; word = h.word; value = h.value }
 
 -- waking one changes only whether it sleeps
-pub wake_cases : (n : Notice) (w : ℕ) (e : Entry) → ((wakes n w e ≡ true) × (wake n w e ≡ set_asleep false e)) ⊎ ((wakes n w e ≡ false) × (wake n w e ≡ e))
+pub wake_cases : (n : Option Notice) (w : ℕ) (e : Entry) → ((wakes n w e ≡ true) × (wake n w e ≡ set_asleep false e)) ⊎ ((wakes n w e ≡ false) × (wake n w e ≡ e))
 wake_cases n w e = ⊎_elim (λ t. inl (t, cond-true _ _ _ t)) (λ f. inr (f, cond-false _ _ _ f)) (cases_Bool (wakes n w e))
 
-wake_same : (n : Notice) (w : ℕ) (x e : Entry) → SameRequest x e → SameRequest x (wake n w e)
+wake_same : (n : Option Notice) (w : ℕ) (x e : Entry) → SameRequest x e → SameRequest x (wake n w e)
 wake_same n w x e h = ⊎_elim (λ p. subst (SameRequest x) (sym p.1) (set_same x e false h)) (λ p. subst (SameRequest x) (sym p.1) h) (wake_cases n w e)
 
-pub present_wake : (n : Notice) (w : ℕ) (x : Entry) (es : List Entry) → Present x es → Present x (map (wake n w) es)
+pub present_wake : (n : Option Notice) (w : ℕ) (x : Entry) (es : List Entry) → Present x es → Present x (map (wake n w) es)
 present_wake n w x [] h = h
 present_wake n w x (e ∷ es) (inl h) = inl (wake_same n w x e h)
 present_wake n w x (e ∷ es) (inr h) = inr (present_wake n w x es h)

@@ -1,5 +1,5 @@
 -- Settle.
-use Rattle.std.proofs.Common.{◌≡◌, ℕ, ◌≤◌, true, false, eqb, List, [], ◌∷◌, map, Some, None, Ok, sym, refl, ap, ◌∙◌, subst, ⊎_elim}
+use Rattle.std.proofs.Common.{◌≡◌, ℕ, ◌≤◌, true, false, eqb, List, [], ◌∷◌, map, Some, None, Ok, Option, sym, refl, ap, ◌∙◌, subst, ⊎_elim}
 use Rattle.std.proofs.lemmas.Bool.{cases_eq, cases_Bool, not-false, and_parts, both_ways, cond-true, cond-false}
 use Rattle.protocol.specs.Rules.{Rules, Lawful}
 use Rattle.tagged.specs.declared.answers.Answer.{Answer}
@@ -23,7 +23,7 @@ use Rattle.promises.proofs.Settling.{served, settle_hit, settle_read, settle_cla
 use Rattle.promises.proofs.Sound.{Noted, WaitsIn, TenureWaits, Sound, same_frames, tenure_noted, cleared, step_sound, refused_sound}
 
 -- a note stays true of a request that wakes
-pub noted_wake : (m : TaggedMemory) (next c : ℕ) (n : Notice) (w : ℕ) (e : Entry) → Noted m next c e → Noted m next c (wake n w e)
+pub noted_wake : (m : TaggedMemory) (next c : ℕ) (n : Option Notice) (w : ℕ) (e : Entry) → Noted m next c e → Noted m next c (wake n w e)
 noted_wake m next c n w e h = ⊎_elim (λ p. subst (Noted m next c) (sym p.1) (record { note = h.note; below = h.below })) (λ p. subst (Noted m next c) (sym p.1) h) (wake_cases n w e)
 
 module _ (r : Rules) (law : Lawful r) (m : TaggedMemory) (s : State) (was : Sound r m s) (slip : Slip) where

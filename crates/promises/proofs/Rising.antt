@@ -1,5 +1,5 @@
 -- Lists stand in the order of issue, and the request that has the bus is the oldest on its word.
-use Rattle.std.proofs.Common.{◌≡◌, ℕ, ◌<◌, ◌≤◌, Bool, true, false, not, ◌&&◌, ◌||◌, List, [], ◌∷◌, ◌++◌, map, Some, None, sym, refl, ◌∙◌, subst, ⊎_elim, arith}
+use Rattle.std.proofs.Common.{◌≡◌, ℕ, ◌<◌, ◌≤◌, Bool, true, false, not, ◌&&◌, ◌||◌, List, [], ◌∷◌, ◌++◌, map, Some, None, Option, sym, refl, ◌∙◌, subst, ⊎_elim, arith}
 use Rattle.std.proofs.lemmas.Bool.{cases_Bool, eq-eqb, not-true, and_parts, both_ways, cond-true, cond-false}
 use Rattle.tagged.specs.declared.answers.Notice.{Notice}
 use Rattle.promises.specs.Board.{Entry}
@@ -27,7 +27,7 @@ within_same es = record { each = λ P h. h; rising = λ h. h }
 pub within_then : {es fs gs : List Entry} → Within es fs → Within fs gs → Within es gs
 within_then x y = record { each = λ P h. y.each P (x.each P h); rising = λ h. y.rising (x.rising h) }
 
-module _ (n : Notice) (w : ℕ) where
+module _ (n : Option Notice) (w : ℕ) where
   wake_each : (P : ℕ → ℕ → Type 0) (e : Entry) → P e.number e.word → P (wake n w e).number (wake n w e).word
   wake_each P e h = ⊎_elim (λ x. subst (λ (y : Entry). P y.number y.word) (sym x.1) h) (λ x. subst (λ (y : Entry). P y.number y.word) (sym x.1) h) (wake_cases n w e)
 

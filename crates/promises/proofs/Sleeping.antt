@@ -4,7 +4,6 @@ use Rattle.std.proofs.lemmas.Bool.{cases_Bool, cases_eq, eq-eqb, and_cases, both
 use Rattle.tagged.specs.Operations.{condition}
 use Rattle.tagged.specs.Rule.{meets, met, rule, notice_of}
 use Rattle.tagged.specs.declared.answers.Notice.{Notice}
-use Rattle.tagged.specs.declared.answers.Notice.TheVariants.{Nothing}
 use Rattle.tagged.specs.declared.operations.Operation.{Operation}
 use Rattle.tagged.specs.declared.rule.Served.{Served}
 use Rattle.tagged.specs.declared.words.Word.{Word}
@@ -31,7 +30,7 @@ untold (Some Full) Empty Full e f = absurd (both_ways true f refl)
 untold (Some Full) Full new e f = absurd (both_ways true e refl)
 
 -- word w changes to x, and the notice tells of it
-pub woken_right : (T : ℕ → Word) (w : ℕ) (x : Word) (n : Notice) → n ≡ notice_of (T w).state x.state → (e : Entry) → SleepsRight T e → SleepsRight (updated T w x) (wake n w e)
+pub woken_right : (T : ℕ → Word) (w : ℕ) (x : Word) (n : Option Notice) → n ≡ notice_of (T w).state x.state → (e : Entry) → SleepsRight T e → SleepsRight (updated T w x) (wake n w e)
 woken_right T w x n told e right =
     ⊎_elim
     (λ p. subst (SleepsRight (updated T w x)) (sym p.1) (λ awake. absurd (both_ways false refl awake)))
@@ -58,6 +57,6 @@ rule_tells o x v =
     (λ f. let is = cond-false (met o x.state) _ _ f in ap (λ (y : Served). y.notice) is ∙ silent x.state ∙ ap (λ (y : Served). notice_of x.state y.word.state) (sym is))
     (cases_Bool (met o x.state))
   where
-    silent : (s : WordState) → Nothing ≡ notice_of s s
+    silent : (s : WordState) → None ≡ notice_of s s
     silent Empty = refl
     silent Full = refl

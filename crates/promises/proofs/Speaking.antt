@@ -6,7 +6,6 @@ use Rattle.memory.specs.Pictures.{picture_length}
 use Rattle.tagged.specs.Operations.{claims, class_of, operation_coded}
 use Rattle.tagged.specs.Rule.{met, rule, done_by, unmet_by, unmet_outcome, unmet_found}
 use Rattle.tagged.specs.declared.answers.Answer.{Answer}
-use Rattle.tagged.specs.declared.answers.Notice.TheVariants.{Nothing}
 use Rattle.tagged.specs.declared.answers.Outcome.{Outcome}
 use Rattle.tagged.specs.declared.answers.Outcome.TheVariants.{Done, Discarded, Trap, Waits}
 use Rattle.tagged.specs.declared.operations.Class.{Class}
@@ -40,7 +39,7 @@ pub record OwesAnswer (m : TaggedMemory) (k : ℕ) (o : Outcome) (found : WordSt
   pub outcome : o ≡ given.outcome
   pub value : 0 ≡ given.value
   pub state : found ≡ given.found
-  pub notice : Nothing ≡ given.notice
+  pub notice : None ≡ given.notice
 
 abbrev pub Owed : TaggedMemory → Bus → Type 0
 Owed m free = Unit {0}

@@ -3,7 +3,7 @@ use Rattle.std.specs.Prelude.{ℕ, Bool, true, false, cond, not, ◌&&◌, ◌||
 use Rattle.tagged.specs.Operations.{condition}
 use Rattle.tagged.specs.Rule.{same_state}
 use Rattle.tagged.specs.declared.answers.Notice.{Notice}
-use Rattle.tagged.specs.declared.answers.Notice.TheVariants.{Nothing, BusSWr, BusSCl}
+use Rattle.tagged.specs.declared.answers.Notice.TheVariants.{BusSWr, BusSCl}
 use Rattle.tagged.specs.declared.words.WordState.{WordState}
 use Rattle.tagged.specs.declared.words.WordState.TheVariants.{Empty, Full}
 use Rattle.promises.specs.Board.{Entry, State}
@@ -38,10 +38,10 @@ oldest_ready older [] = None
 oldest_ready older (e ∷ es) = cond (not e.asleep && not (any_entry (on_word e.word) older)) (Some e) (oldest_ready (e ∷ older) es)
 
 -- the state that a notice tells of
-abbrev pub told_state : Notice → Option WordState
-told_state Nothing = None
-told_state BusSWr = Some Full
-told_state BusSCl = Some Empty
+abbrev pub told_state : Option Notice → Option WordState
+told_state None = None
+told_state (Some BusSWr) = Some Full
+told_state (Some BusSCl) = Some Empty
 
 abbrev pub needs_told : Option WordState → Option WordState → Bool
 needs_told None told = false
@@ -49,12 +49,12 @@ needs_told (Some needed) None = false
 needs_told (Some needed) (Some told) = same_state needed told
 
 -- a sleeper on word w that waits for the state that the notice tells
-abbrev pub wakes : Notice → ℕ → Entry → Bool
+abbrev pub wakes : Option Notice → ℕ → Entry → Bool
 wakes n w e = e.asleep && (on_word w e && needs_told (condition e.operation) (told_state n))
 
-abbrev pub wake : Notice → ℕ → Entry → Entry
+abbrev pub wake : Option Notice → ℕ → Entry → Entry
 wake n w e = cond (wakes n w e) (set_asleep false e) e
 
 -- how many sleepers of all lists a notice wakes
-abbrev pub woken : State → Notice → ℕ → ℕ
+abbrev pub woken : State → Option Notice → ℕ → ℕ
 woken s n w = over_cores (λ c. count_by (wakes n w) (s.waiting c))

@@ -6,7 +6,6 @@ use Rattle.protocol.specs.Rules.{Rules}
 use Rattle.tagged.specs.Operations.{class_of, claims, operation_coded}
 use Rattle.tagged.specs.Rule.{met, rule, done_by, unmet_outcome, unmet_found}
 use Rattle.tagged.specs.declared.answers.Answer.{Answer}
-use Rattle.tagged.specs.declared.answers.Notice.TheVariants.{Nothing}
 use Rattle.tagged.specs.declared.answers.Outcome.{Outcome}
 use Rattle.tagged.specs.declared.answers.Outcome.TheVariants.{Done, Discarded, Trap, Waits}
 use Rattle.tagged.specs.declared.operations.Class.{Class}
@@ -67,7 +66,7 @@ waits Trapping = false
 
 -- an answer to request k that is not done
 abbrev pub answer_undone : ℕ → Outcome → WordState → Answer
-answer_undone k o found = record { number = k; outcome = o; value = 0; found = found; notice = Nothing; woken = 0 }
+answer_undone k o found = record { number = k; outcome = o; value = 0; found = found; notice = None; woken = 0 }
 
 -- an answer that tells what was served
 abbrev pub answer_served : ℕ → Served → ℕ → Answer

@@ -1,18 +1,10 @@
 -- A name belongs to one operation.
-use Rattle.std.proofs.Common.{◌≡◌, ℕ, Bool, true, false, cond, eqb, List, [], ◌∷◌, length, get_or, sym, refl, ap, ◌∙◌, arith}
+use Rattle.std.proofs.Common.{◌≡◌, ℕ, Bool, true, false, cond, eqb, List, [], ◌∷◌, sym, refl, ap, ◌∙◌}
 use Rattle.tagged.specs.declared.operations.Class.{Class}
 use Rattle.tagged.specs.declared.operations.Class.TheVariants.{Unconditional, Waiting, NonFaulting, Trapping}
 use Rattle.tagged.specs.declared.operations.Operation.{Operation}
 use Rattle.tagged.specs.declared.operations.Operation.TheVariants.{Read, Write, Clear}
 use Rattle.tagged.specs.Operations.{class_letter, alter_letter, name_of}
-
-pub four_letters : (xs : List ℕ) (a b c d : ℕ) → length xs ≡ 4 → get_or xs 0 0 ≡ a → get_or xs 1 0 ≡ b → get_or xs 2 0 ≡ c → get_or xs 3 0 ≡ d → xs ≡ a ∷ b ∷ c ∷ d ∷ []
-four_letters [] a b c d l p q r s = absurd (omega arith)
-four_letters (w ∷ []) a b c d l p q r s = absurd (omega arith)
-four_letters (w ∷ x ∷ []) a b c d l p q r s = absurd (omega arith)
-four_letters (w ∷ x ∷ y ∷ []) a b c d l p q r s = absurd (omega arith)
-four_letters (w ∷ x ∷ y ∷ z ∷ []) a b c d l p q r s = cc
-four_letters (w ∷ x ∷ y ∷ z ∷ v ∷ vs) a b c d l p q r s = absurd (omega arith)
 
 -- the operation with a name, and some operation for any other text
 class_by : ℕ → Class

@@ -1,9 +1,12 @@
 -- The seventeen operations: what each is, its code and its name.
-use Rattle.std.specs.Prelude.{ℕ, ◌+◌, ◌*◌, Bool, true, false, cond, List, [], ◌∷◌, Some, None, codes, Option, slice_index_or}
+use Rattle.std.specs.Prelude.{◌≡◌, ◌≢◌, ℕ, ◌+◌, ◌*◌, ◌<◌, Bool, true, false, cond, List, [], ◌∷◌, Some, None, Ok, codes, MatchResult, Option, Result, slice_index_or}
 use Rattle.tagged.specs.declared.operations.Class.{Class}
 use Rattle.tagged.specs.declared.operations.Class.TheVariants.{Unconditional, Waiting, NonFaulting, Trapping}
 use Rattle.tagged.specs.declared.operations.Operation.{Operation}
 use Rattle.tagged.specs.declared.operations.Operation.TheVariants.{Read, Write, Clear}
+use Rattle.tagged.specs.declared.operations.UnknownName.{UnknownName}
+use Rattle.tagged.specs.declared.refusals.Refusal.{Refusal}
+use Rattle.tagged.specs.declared.refusals.Refusal.TheVariants.{NoSuchOperation}
 use Rattle.tagged.specs.declared.words.WordState.{WordState}
 use Rattle.tagged.specs.declared.words.WordState.TheVariants.{Empty, Full}
 
@@ -70,6 +73,16 @@ abbrev pub name_of : Operation → List ℕ
 name_of (Read k x) = class_letter k ∷ alter_letter x ∷ codes "Rd"
 name_of (Write k x) = class_letter k ∷ alter_letter x ∷ codes "Wr"
 name_of Clear = codes "UACl"
+
+-- a code reads back as its operation, and a number above 16, which is no operation's code, is refused
+pub record Decodes (code : ℕ) (r : Result Operation Refusal) : Type 0 where
+  pub cases : MatchResult r (λ o. code ≡ code_of o) (λ e. (e ≡ NoSuchOperation) × (16 < code))
+  pub reads_back : (o : Operation) → code ≡ code_of o → r ≡ Ok o
+
+-- a name reads back as its operation, and bytes that are no operation's name are refused
+pub record ReadsName (name : List ℕ) (r : Result Operation UnknownName) : Type 0 where
+  pub cases : MatchResult r (λ o. name ≡ name_of o) (λ e. (o : Operation) → name ≢ name_of o)
+  pub reads_back : (o : Operation) → name ≡ name_of o → r ≡ Ok o
 
 -- the operations in the order of their codes
 abbrev pub operations : List Operation

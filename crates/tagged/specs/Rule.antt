@@ -1,7 +1,7 @@
 -- The rule for one word, and what the laws above it speak of.
 use Rattle.std.specs.Prelude.{◌≡◌, ℕ, Bool, true, false, cond, Some, None, Option}
 use Rattle.tagged.specs.declared.answers.Notice.{Notice}
-use Rattle.tagged.specs.declared.answers.Notice.TheVariants.{Nothing, BusSWr, BusSCl}
+use Rattle.tagged.specs.declared.answers.Notice.TheVariants.{BusSWr, BusSCl}
 use Rattle.tagged.specs.declared.answers.Outcome.{Outcome}
 use Rattle.tagged.specs.declared.answers.Outcome.TheVariants.{Done, Discarded, Trap, Waits}
 use Rattle.tagged.specs.declared.operations.Class.{Class}
@@ -47,11 +47,11 @@ state_after (Write c a) s = cond a Full s
 state_after Clear s = Empty
 
 -- filling an empty word and emptying a full one are told
-abbrev pub notice_of : WordState → WordState → Notice
-notice_of Empty Empty = Nothing
-notice_of Empty Full = BusSWr
-notice_of Full Empty = BusSCl
-notice_of Full Full = Nothing
+abbrev pub notice_of : WordState → WordState → Option Notice
+notice_of Empty Empty = None
+notice_of Empty Full = Some BusSWr
+notice_of Full Empty = Some BusSCl
+notice_of Full Full = None
 
 abbrev pub done_by : Operation → Word → ℕ → Served
 done_by o w v = record {
@@ -81,7 +81,7 @@ unmet_by o w = record {
   outcome = unmet_outcome (class_of o);
   value = 0;
   found = unmet_found (class_of o) w.state;
-  notice = Nothing;
+  notice = None;
   word = w;
 }
 
@@ -90,10 +90,10 @@ abbrev pub rule : Operation → Word → ℕ → Served
 rule o w v = cond (met o w.state) (done_by o w v) (unmet_by o w)
 
 -- a notice says exactly whether the state changed, and which way
-pub record TellsTheChange (before after : WordState) (n : Notice) : Type 0 where
-  pub filled : (n ≡ BusSWr → (before ≡ Empty) × (after ≡ Full)) × ((before ≡ Empty) × (after ≡ Full) → n ≡ BusSWr)
-  pub emptied : (n ≡ BusSCl → (before ≡ Full) × (after ≡ Empty)) × ((before ≡ Full) × (after ≡ Empty) → n ≡ BusSCl)
-  pub unchanged : (n ≡ Nothing → before ≡ after) × (before ≡ after → n ≡ Nothing)
+pub record TellsTheChange (before after : WordState) (n : Option Notice) : Type 0 where
+  pub filled : (n ≡ Some BusSWr → (before ≡ Empty) × (after ≡ Full)) × ((before ≡ Empty) × (after ≡ Full) → n ≡ Some BusSWr)
+  pub emptied : (n ≡ Some BusSCl → (before ≡ Full) × (after ≡ Empty)) × ((before ≡ Full) × (after ≡ Empty) → n ≡ Some BusSCl)
+  pub unchanged : (n ≡ None → before ≡ after) × (before ≡ after → n ≡ None)
 
 -- the same in all that the requester is told
 pub record SameAnswer (s t : Served) : Type 0 where

@@ -4,31 +4,26 @@ ghost use Rattle.tagged.specs.Answers.{outcome_number, notice_number};
 
 use crate::words::WordState;
 
-#[derive(Clone, Copy)]
+// What became of a request, by the number that an answer carries.
+#[derive(Clone, Copy, Debug, PartialEq, Eq)]
 pub enum Outcome {
-    Done,
-    Discarded,
-    Trap,
-    Waits,
+    Done = 0,
+    Discarded = 1,
+    Trap = 2,
+    Waits = 3,
 }
 
-impl Outcome {
-    pub fn number(self) -> u8
-        ensures { result ≡ outcome_number self }
-    {
-        match self {
-            Outcome::Done => 0,
-            Outcome::Discarded => 1,
-            Outcome::Trap => 2,
-            Outcome::Waits => 3,
-        }
+impl From<Outcome> for u8 {
+    ghost from_gives = { λ outcome number. number ≡ outcome_number outcome };
+
+    fn from(outcome: Outcome) -> u8 {
+        outcome as u8
     }
 }
 
-// What the bus tells sleepers of a word.
-#[derive(Clone, Copy)]
+// What the bus tells sleepers of a word whose state changed.
+#[derive(Clone, Copy, Debug, PartialEq, Eq)]
 pub enum Notice {
-    Nothing,
     // An empty word was filled.
     BusSWr,
     // A full word was emptied.
@@ -36,19 +31,21 @@ pub enum Notice {
 }
 
 impl Notice {
-    pub fn number(self) -> u8
-        ensures { result ≡ notice_number self }
+    // The number that an answer carries: 0 where nothing is told.
+    pub fn number(told: Option<Notice>) -> u8
+        ensures { result ≡ notice_number told }
     {
-        match self {
-            Notice::Nothing => 0,
-            Notice::BusSWr => 1,
-            Notice::BusSCl => 2,
+        match told {
+            None => 0,
+            Some(Notice::BusSWr) => 1,
+            Some(Notice::BusSCl) => 2,
         }
     }
 }
 
-// Unless the outcome is done, `value`, `notice` and `woken` are 0; where it waits, `found` is empty too.
-#[derive(Clone, Copy)]
+// All six figures are there for every outcome: unless it is done, `value` and `woken` are 0 and nothing is told; where it
+// waits, `found` is empty too. So the device drives the same wires whatever it answers.
+#[derive(Clone, Copy, Debug, PartialEq, Eq)]
 pub struct Answer {
     // The request's number.
     pub number: u32,
@@ -56,7 +53,7 @@ pub struct Answer {
     pub value: u32,
     // The word's state as the operation found it.
     pub found: WordState,
-    pub notice: Notice,
+    pub notice: Option<Notice>,
     // How many sleepers the notice woke.
     pub woken: u8,
 }

@@ -1,11 +1,14 @@
 // The seventeen operations on a word, with their codes and names.
-ghost use Rattle.std.specs.Prelude.{◌≡◌, ◌<◌, Bool, Some, None, MatchOption, ◌≢◌};
-ghost use Rattle.tagged.specs.Operations.{class_of, altering, claims, reads, condition, class_number, class_letter, alter_letter, code_of, name_of};
+ghost use Rattle.std.specs.Prelude.{◌≡◌, ◌≢◌, ◌<◌, Bool, Some, MatchOption, codes};
+ghost use Rattle.tagged.specs.Operations.{class_of, altering, claims, reads, condition, class_number, class_letter, alter_letter, code_of, name_of, Decodes, ReadsName};
 
+use crate::refusals::Refusal;
 use crate::words::WordState;
+use std::error::Error;
+use std::fmt;
 
 // What happens where a word has not the state that the operation needs.
-#[derive(Clone, Copy)]
+#[derive(Clone, Copy, Debug, PartialEq, Eq)]
 pub enum Class {
     // U: needs no state.
     Unconditional,
@@ -21,12 +24,7 @@ impl Class {
     fn number(self) -> u8
         ensures { result ≡ class_number self }
     {
-        match self {
-            Class::Unconditional => 0,
-            Class::Waiting => 1,
-            Class::NonFaulting => 2,
-            Class::Trapping => 3,
-        }
+        self as u8
     }
 
     fn from_number(number: u8) -> Option<Class>
@@ -65,7 +63,7 @@ impl Class {
     }
 }
 
-#[derive(Clone, Copy)]
+#[derive(Clone, Copy, Debug, PartialEq, Eq)]
 pub enum Operation {
     Read { class: Class, altering: bool },
     Write { class: Class, altering: bool },
@@ -77,8 +75,7 @@ impl Operation {
         ensures { result ≡ class_of self }
     {
         match self {
-            Operation::Read { class, .. } => class,
-            Operation::Write { class, .. } => class,
+            Operation::Read { class, .. } | Operation::Write { class, .. } => class,
             Operation::Clear => Class::Unconditional,
         }
     }
@@ -86,11 +83,7 @@ impl Operation {
     pub fn is_read(self) -> bool
         ensures { result ≡ reads self }
     {
-        match self {
-            Operation::Read { .. } => true,
-            Operation::Write { .. } => false,
-            Operation::Clear => false,
-        }
+        matches!(self, Operation::Read { .. })
     }
 
     // Whether a done operation sets the word's state: a read to empty, a write to full.
@@ -98,8 +91,7 @@ impl Operation {
         ensures { result ≡ altering self }
     {
         match self {
-            Operation::Read { altering, .. } => altering,
-            Operation::Write { altering, .. } => altering,
+            Operation::Read { altering, .. } | Operation::Write { altering, .. } => altering,
             Operation::Clear => true,
         }
     }
@@ -110,8 +102,7 @@ impl Operation {
     {
         match self {
             Operation::Read { altering, .. } => altering,
-            Operation::Write { .. } => true,
-            Operation::Clear => true,
+            Operation::Write { .. } | Operation::Clear => true,
         }
     }
 
@@ -126,38 +117,7 @@ impl Operation {
         };
         match self.class() {
             Class::Unconditional => None,
-            Class::Waiting => Some(needed),
-            Class::NonFaulting => Some(needed),
-            Class::Trapping => Some(needed),
-        }
-    }
-
-    pub fn code(self) -> u8
-        ensures { result ≡ code_of self }
-    {
-        match self {
-            Operation::Read { class, altering } => 4 * class.number()
-                + if altering { 2 } else { 0 },
-            Operation::Write { class, altering } => 4 * class.number()
-                + if altering { 3 } else { 1 },
-            Operation::Clear => 16,
-        }
-    }
-
-    // The operation with this code; none above 16.
-    pub fn from_code(code: u8) -> Option<Operation>
-        ensures cases { MatchOption result (16 < code) (λ o. code ≡ code_of o) }
-        ensures reads_back { (o : Operation) → code ≡ code_of o → result ≡ Some o }
-    {
-        if code == 16 {
-            return Some(Operation::Clear);
-        }
-        let class = Class::from_number(code / 4)?;
-        let altering = code % 4 >= 2;
-        if code % 2 == 0 {
-            Some(Operation::Read { class, altering })
-        } else {
-            Some(Operation::Write { class, altering })
+            Class::Waiting | Class::NonFaulting | Class::Trapping => Some(needed),
         }
     }
 
@@ -180,23 +140,74 @@ impl Operation {
             Operation::Clear => *b"UACl",
         }
     }
+}
 
-    // The operation with this name; none where the bytes are no operation's name.
-    pub fn from_name(name: &[u8]) -> Option<Operation>
-        ensures cases { MatchOption result ((o : Operation) → name.now ≢ name_of o) (λ o. name.now ≡ name_of o) }
-        ensures reads_back { (o : Operation) → name.now ≡ name_of o → result ≡ Some o }
-    {
+impl From<Operation> for u8 {
+    ghost from_gives = { λ operation code. code ≡ code_of operation };
+
+    fn from(operation: Operation) -> u8 {
+        match operation {
+            Operation::Read { class, altering } => 4 * class.number()
+                + if altering { 2 } else { 0 },
+            Operation::Write { class, altering } => 4 * class.number()
+                + if altering { 3 } else { 1 },
+            Operation::Clear => 16,
+        }
+    }
+}
+
+// The operation with a code; none above 16.
+impl TryFrom<u8> for Operation {
+    type Error = Refusal;
+
+    ghost try_from_gives = { Decodes };
+
+    fn try_from(code: u8) -> Result<Operation, Refusal> {
+        if code == 16 {
+            return Ok(Operation::Clear);
+        }
+        let class = Class::from_number(code / 4).ok_or(Refusal::NoSuchOperation)?;
+        let altering = code % 4 >= 2;
+        Ok(if code % 2 == 0 {
+            Operation::Read { class, altering }
+        } else {
+            Operation::Write { class, altering }
+        })
+    }
+}
+
+// Bytes that are no operation's name.
+#[derive(Clone, Copy, Debug, PartialEq, Eq)]
+pub struct UnknownName;
+
+impl fmt::Display for UnknownName {
+    ghost output = { λ _. Some (codes "no operation has the name") };
+
+    fn fmt<W: fmt::Write>(&self, f: &mut fmt::Formatter<W>) -> fmt::Result {
+        write!(f, "no operation has the name")
+    }
+}
+
+impl Error for UnknownName {}
+
+// The operation with a name; none where the bytes are no operation's name.
+impl TryFrom<&[u8]> for Operation {
+    type Error = UnknownName;
+
+    ghost try_from_gives = { λ name r. ReadsName name.now r };
+
+    fn try_from(name: &[u8]) -> Result<Operation, UnknownName> {
         match name {
-            b"UACl" => Some(Operation::Clear),
-            [class, alter, b'R', b'd'] => Some(Operation::Read {
-                class: Class::from_letter(*class)?,
-                altering: alters(*alter)?,
+            b"UACl" => Ok(Operation::Clear),
+            [class, alter, b'R', b'd'] => Ok(Operation::Read {
+                class: Class::from_letter(*class).ok_or(UnknownName)?,
+                altering: alters(*alter).ok_or(UnknownName)?,
             }),
-            [class, alter, b'W', b'r'] => Some(Operation::Write {
-                class: Class::from_letter(*class)?,
-                altering: alters(*alter)?,
+            [class, alter, b'W', b'r'] => Ok(Operation::Write {
+                class: Class::from_letter(*class).ok_or(UnknownName)?,
+                altering: alters(*alter).ok_or(UnknownName)?,
             }),
-            _ => None,
+            _ => Err(UnknownName),
         }
     }
 }

@@ -8,12 +8,12 @@ use crate::operations::{Class, Operation};
 use crate::words::{Word, WordState};
 
 // What an operation on a word answers, and the word afterwards.
-#[derive(Clone, Copy)]
+#[derive(Clone, Copy, Debug, PartialEq, Eq)]
 pub struct Served {
     pub outcome: Outcome,
     pub value: u32,
     pub found: WordState,
-    pub notice: Notice,
+    pub notice: Option<Notice>,
     pub word: Word,
 }
 
@@ -22,10 +22,7 @@ impl Operation {
     pub fn is_met_by(self, state: WordState) -> bool
         ensures { result ≡ met self state }
     {
-        match self.condition() {
-            Some(needed) => needed == state,
-            None => true,
-        }
+        self.condition().is_none_or(|needed| needed == state)
     }
 
     // Serves the operation at `word`; `value` is what a write stores.
@@ -53,13 +50,7 @@ impl Operation {
                 } else {
                     word.state
                 };
-                (
-                    word.value,
-                    Word {
-                        value: word.value,
-                        state,
-                    },
-                )
+                (word.value, Word { state, ..word })
             }
             Operation::Write { altering, .. } => {
                 let state = if altering {
@@ -71,13 +62,7 @@ impl Operation {
             }
             Operation::Clear => {
                 let state = WordState::Empty;
-                (
-                    0,
-                    Word {
-                        value: word.value,
-                        state,
-                    },
-                )
+                (0, Word { state, ..word })
             }
         };
         Served {
@@ -103,19 +88,19 @@ impl Operation {
             outcome,
             value: 0,
             found,
-            notice: Notice::Nothing,
+            notice: None,
             word,
         }
     }
 }
 
 // What is told of a word that goes from one state to another.
-fn notice_of(before: WordState, after: WordState) -> Notice
+fn notice_of(before: WordState, after: WordState) -> Option<Notice>
     ensures { result ≡ notice_of before after }
 {
     match (before, after) {
-        (WordState::Empty, WordState::Full) => Notice::BusSWr,
-        (WordState::Full, WordState::Empty) => Notice::BusSCl,
-        _ => Notice::Nothing,
+        (WordState::Empty, WordState::Full) => Some(Notice::BusSWr),
+        (WordState::Full, WordState::Empty) => Some(Notice::BusSCl),
+        _ => None,
     }
 }

@@ -3,24 +3,21 @@ ghost use Rattle.std.specs.Prelude.{◌≡◌, ℕ, ◌/◌, ◌%◌, ◌≢◌}
 ghost use Rattle.tagged.specs.Words.{state_number, word_at, with_word, blank};
 
 // Whether a word holds something to take. A read that needs a full word waits on an empty one.
-#[derive(Clone, Copy, PartialEq, Eq)]
+#[derive(Clone, Copy, Debug, PartialEq, Eq)]
 pub enum WordState {
-    Empty,
-    Full,
+    Empty = 0,
+    Full = 1,
 }
 
-impl WordState {
-    pub fn number(self) -> u8
-        ensures { result ≡ state_number self }
-    {
-        match self {
-            WordState::Empty => 0,
-            WordState::Full => 1,
-        }
+impl From<WordState> for u8 {
+    ghost from_gives = { λ state number. number ≡ state_number state };
+
+    fn from(state: WordState) -> u8 {
+        state as u8
     }
 }
 
-#[derive(Clone, Copy)]
+#[derive(Clone, Copy, Debug, PartialEq, Eq)]
 pub struct Word {
     pub value: u32,
     pub state: WordState,
@@ -29,7 +26,8 @@ pub struct Word {
 // Word w of a memory stands in line w / 4 at place w % 4.
 pub const WORDS_PER_LINE: u32 = 4;
 
-#[derive(Clone, Copy)]
+// Values and states in an array each, copied by value between memory, bus and frames: a rule of the project.
+#[derive(Clone, Copy, Debug, PartialEq, Eq)]
 pub struct Line {
     pub values: [u32; 4],
     pub states: [WordState; 4],

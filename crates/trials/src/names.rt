@@ -1,20 +1,24 @@
 // Codes and names of operations, and what is no name.
 use std::test::Fail;
 use tagged::operations::Operation;
+use tagged::refusals::Refusal;
 
 #[test]
 fn seventeen_codes_have_an_operation(rt: HostRuntime) -> Result<(), Fail> {
     for code in 0..=255u8 {
-        match Operation::from_code(code) {
-            Some(operation) => {
+        match Operation::try_from(code) {
+            Ok(operation) => {
                 assert!(rt; code <= 16);
-                assert_eq!(rt; operation.code(), code);
-                let again = Operation::from_name(&operation.name()).ok_or(
-                    "a name is not read back",
-                )?;
-                assert_eq!(rt; again.code(), code);
+                assert_eq!(rt; u8::from(operation), code);
+                assert_eq!(rt;
+                    Operation::try_from(operation.name().as_slice())?,
+                    operation
+                );
             }
-            None => assert!(rt; code > 16),
+            Err(refusal) => {
+                assert!(rt; code > 16);
+                assert_eq!(rt; refusal, Refusal::NoSuchOperation);
+            }
         }
     }
     Ok(())
@@ -27,6 +31,6 @@ fn other_texts_are_no_names(rt: HostRuntime) {
         b"UXRd", b"UNRr", b" UNRd",
     ];
     for name in bad {
-        assert!(rt; Operation::from_name(name).is_none());
+        assert!(rt; Operation::try_from(name).is_err());
     }
 }

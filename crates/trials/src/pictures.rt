@@ -82,7 +82,7 @@ fn random_pictures_read_back(rt: HostRuntime) -> Result<(), Fail> {
 fn told(bytes: &[u8]) -> (u8, usize) {
     match check_picture(bytes) {
         Ok(count) => (0, count as usize),
-        Err(fault) => (fault.refusal().number(), fault.place()),
+        Err(fault) => (u8::from(fault.refusal()), fault.place()),
     }
 }
 

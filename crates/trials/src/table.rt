@@ -1,6 +1,7 @@
 // The whole operation table, written out by hand, against the rule for one word.
 use std::process::Abort;
 use std::test::Fail;
+use tagged::answers::Notice;
 use tagged::operations::Operation;
 use tagged::words::{Word, WordState};
 
@@ -53,22 +54,22 @@ const ON_AN_EMPTY_WORD: [Row; 17] = [
 fn columns(operation: Operation, state: WordState) -> [u32; 6] {
     let served = operation.serve(Word { value: 9, state }, 4);
     [
-        u32::from(served.outcome.number()),
+        u32::from(u8::from(served.outcome)),
         served.value,
-        u32::from(served.found.number()),
-        u32::from(served.notice.number()),
+        u32::from(u8::from(served.found)),
+        u32::from(Notice::number(served.notice)),
         served.word.value,
-        u32::from(served.word.state.number()),
+        u32::from(u8::from(served.word.state)),
     ]
 }
 
 fn compare(rt: &impl Abort, rows: &[Row], state: WordState) -> Result<(), Fail> {
     let mut code = 0u8;
     for (name, expected) in rows {
-        let operation = Operation::from_name(name).ok_or("no operation has a name of the table")?;
+        let operation = Operation::try_from(name.as_slice())?;
         assert_eq!(rt; columns(operation, state), *expected);
         assert_eq!(rt; operation.name(), *name);
-        assert_eq!(rt; operation.code(), code);
+        assert_eq!(rt; u8::from(operation), code);
         code = code.wrapping_add(1);
     }
     assert_eq!(rt; code, 17);
