@@ -5,22 +5,24 @@ ghost use Rattle.std.proofs.Common.{rules};
 
 use crate::Protocol;
 
-// The state of a cache's copy of a line.
-#[derive(Clone, Copy)]
+// The state of a cache's copy of a line, by its code.
+#[derive(Clone, Copy, Debug, PartialEq, Eq)]
 pub enum LineState {
-    Invalid,
-    Shared,
-    Exclusive,
-    Modified,
+    Invalid = 0,
+    Shared = 1,
+    Exclusive = 2,
+    Modified = 3,
+}
+
+impl From<LineState> for u8 {
+    ghost from_gives = { λ state code. code ≡ code_of state };
+
+    fn from(state: LineState) -> u8 {
+        state as u8
+    }
 }
 
 impl LineState {
-    fn code(self) -> u8
-        ensures { result ≡ code_of self }
-    {
-        self as u8
-    }
-
     fn is_kept(self) -> bool
         ensures { result ≡ kept self }
     {
@@ -49,7 +51,7 @@ impl LineState {
     }
 }
 
-#[derive(Clone, Copy)]
+#[derive(Clone, Copy, Debug, PartialEq, Eq)]
 pub enum Standard {
     Msi,
     Mesi,
@@ -96,18 +98,18 @@ impl Protocol for Standard {
     }
 
     fn after_read(&self, code: u8) -> u8 {
-        self.state(code).after_read().code()
+        self.state(code).after_read().into()
     }
 
     fn after_claim(&self, _code: u8) -> u8 {
-        LineState::Invalid.code()
+        LineState::Invalid.into()
     }
 
     fn read_fill(&self, shared: bool) -> u8 {
-        self.filled(shared).code()
+        self.filled(shared).into()
     }
 
     fn own_claim(&self) -> u8 {
-        LineState::Modified.code()
+        LineState::Modified.into()
     }
 }
