@@ -11,34 +11,16 @@ use std::fmt;
 #[derive(Clone, Copy, Debug, PartialEq, Eq)]
 pub enum Class {
     // U: needs no state.
-    Unconditional,
+    Unconditional = 0,
     // W: waits for the state.
-    Waiting,
+    Waiting = 1,
     // N: is discarded.
-    NonFaulting,
+    NonFaulting = 2,
     // T: traps.
-    Trapping,
+    Trapping = 3,
 }
 
 impl Class {
-    fn number(self) -> u8
-        ensures { result ≡ class_number self }
-    {
-        self as u8
-    }
-
-    fn from_number(number: u8) -> Option<Class>
-        ensures { MatchOption result (3 < number) (λ c. number ≡ class_number c) }
-    {
-        match number {
-            0 => Some(Class::Unconditional),
-            1 => Some(Class::Waiting),
-            2 => Some(Class::NonFaulting),
-            3 => Some(Class::Trapping),
-            _ => None,
-        }
-    }
-
     fn letter(self) -> u8
         ensures { result ≡ class_letter self }
     {
@@ -124,21 +106,12 @@ impl Operation {
     pub fn name(self) -> [u8; 4]
         ensures { result ≡ name_of self }
     {
-        match self {
-            Operation::Read { class, altering } => [
-                class.letter(),
-                alter_letter(altering),
-                b'R',
-                b'd',
-            ],
-            Operation::Write { class, altering } => [
-                class.letter(),
-                alter_letter(altering),
-                b'W',
-                b'r',
-            ],
-            Operation::Clear => *b"UACl",
-        }
+        let (class, altering, [kind, ending]) = match self {
+            Operation::Read { class, altering } => (class, altering, *b"Rd"),
+            Operation::Write { class, altering } => (class, altering, *b"Wr"),
+            Operation::Clear => return *b"UACl",
+        };
+        [class.letter(), alter_letter(altering), kind, ending]
     }
 }
 
@@ -147,10 +120,8 @@ impl From<Operation> for u8 {
 
     fn from(operation: Operation) -> u8 {
         match operation {
-            Operation::Read { class, altering } => 4 * class.number()
-                + if altering { 2 } else { 0 },
-            Operation::Write { class, altering } => 4 * class.number()
-                + if altering { 3 } else { 1 },
+            Operation::Read { class, altering } => 4 * class as u8 + 2 * u8::from(altering),
+            Operation::Write { class, altering } => 4 * class as u8 + 2 * u8::from(altering) + 1,
             Operation::Clear => 16,
         }
     }
@@ -163,10 +134,14 @@ impl TryFrom<u8> for Operation {
     ghost try_from_gives = { Decodes };
 
     fn try_from(code: u8) -> Result<Operation, Refusal> {
-        if code == 16 {
-            return Ok(Operation::Clear);
-        }
-        let class = Class::from_number(code / 4).ok_or(Refusal::NoSuchOperation)?;
+        let class = match code / 4 {
+            0 => Class::Unconditional,
+            1 => Class::Waiting,
+            2 => Class::NonFaulting,
+            3 => Class::Trapping,
+            _ if code == 16 => return Ok(Operation::Clear),
+            _ => return Err(Refusal::NoSuchOperation),
+        };
         let altering = code % 4 >= 2;
         Ok(if code % 2 == 0 {
             Operation::Read { class, altering }

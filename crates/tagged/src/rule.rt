@@ -43,31 +43,23 @@ impl Operation {
     fn done(self, word: Word, value: u32) -> Served
         ensures { result ≡ done_by self word value }
     {
-        let (answered, after) = match self {
-            Operation::Read { altering, .. } => {
-                let state = if altering {
-                    WordState::Empty
-                } else {
-                    word.state
-                };
-                (word.value, Word { state, ..word })
-            }
-            Operation::Write { altering, .. } => {
-                let state = if altering {
-                    WordState::Full
-                } else {
-                    word.state
-                };
-                (0, Word { value, state })
-            }
-            Operation::Clear => {
-                let state = WordState::Empty;
-                (0, Word { state, ..word })
-            }
+        let emptied = Word {
+            state: WordState::Empty,
+            ..word
+        };
+        let filled = Word {
+            value,
+            state: WordState::Full,
+        };
+        let after = match self {
+            Operation::Read { altering: true, .. } | Operation::Clear => emptied,
+            Operation::Read { .. } => word,
+            Operation::Write { altering: true, .. } => filled,
+            Operation::Write { .. } => Word { value, ..word },
         };
         Served {
             outcome: Outcome::Done,
-            value: answered,
+            value: if self.is_read() { word.value } else { 0 },
             found: word.state,
             notice: notice_of(word.state, after.state),
             word: after,
