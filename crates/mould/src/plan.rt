@@ -6,7 +6,7 @@ ghost use Rattle.mould.specs.Plan.{face_numbered, CountOf};
 use std::alloc::{AllocError, Global};
 
 // A face of the mould, and how far it may be off, in micrometres.
-#[derive(Clone, Copy)]
+#[derive(Clone, Copy, Debug, PartialEq, Eq)]
 pub struct Face {
     pub number: u32,
     pub tolerance: u32,
@@ -19,10 +19,7 @@ pub const MOST_FACES: u32 = 100_000;
 pub fn face_count(text: &str) -> Option<u32>
     ensures { MatchOption result ((n : ℕ) → CountOf text.now n → ⊥) (λ n. CountOf text.now n) }
 {
-    match text.parse::<u32>() {
-        Ok(count) if count <= MOST_FACES => Some(count),
-        _ => None,
-    }
+    text.parse().ok().filter(|count| *count <= MOST_FACES)
 }
 
 impl Face {
@@ -41,9 +38,5 @@ impl Face {
 pub fn first_faces(heap: Global, count: u32) -> Result<Vec<Face>, AllocError>
     ensures { IfOk result (λ v. v.items ≡ map face_numbered (range_with_len 1 count)) }
 {
-    let mut faces = Vec::new(heap);
-    for k in 0..count {
-        faces.push(Face::numbered(k + 1))?;
-    }
-    Ok(faces)
+    (1..=count).map(Face::numbered).collect(heap)
 }
