@@ -14,7 +14,7 @@ use Rattle.mould.specs.declared.report.Totals.{Totals}
 
 -- request n fills the word, and request n + 1 takes it
 abbrev pub handed_by : ℕ → Face → Handed
-handed_by n f = record { face = f.number; tolerance = f.tolerance; filled = n; taken = n + 1 }
+handed_by n f = record { face = f; filled = n; taken = n + 1 }
 
 -- the word that the face went through holds its tolerance, and is empty again
 pub record HandsOver (before : Words) (f : Face) (h : Handed) (after : Words) : Type 0 where
@@ -33,17 +33,13 @@ abbrev pub all_handed_from : ℕ → List Face → List Handed
 all_handed_from n [] = []
 all_handed_from n (f ∷ fs) = handed_by n f ∷ all_handed_from (n + 2) fs
 
--- the face that the probe took it for
-abbrev pub as_face : Handed → Face
-as_face h = record { number = h.face; tolerance = h.tolerance }
-
 -- the probe has the faces of the plan, in its order, each with its own tolerance
 abbrev pub KeepsItsTolerance : List Face → List Handed → Type 0
-KeepsItsTolerance fs hs = map as_face hs ≡ fs
+KeepsItsTolerance fs hs = map (λ h. h.face) hs ≡ fs
 
 -- the line that is printed of it
 abbrev pub shown_handed : Handed → List ℕ
-shown_handed h = codes "face " ++ (decimal h.face ++ (codes ": tolerance " ++ (decimal h.tolerance ++ (codes ", filled by request " ++ (decimal h.filled ++ (codes ", taken by request " ++ decimal h.taken))))))
+shown_handed h = codes "face " ++ (decimal h.face.number ++ (codes ": tolerance " ++ (decimal h.face.tolerance ++ (codes ", filled by request " ++ (decimal h.filled ++ (codes ", taken by request " ++ decimal h.taken))))))
 
 -- whether the tolerances were kept, in words
 abbrev pub shown_kept : Bool → List ℕ

@@ -29,10 +29,9 @@ const TAKE: Operation = Operation::Read {
 };
 
 // A face as the probe has it, with the requests that brought it there.
-#[derive(Clone, Copy)]
+#[derive(Clone, Copy, Debug, PartialEq, Eq)]
 pub struct Handed {
-    pub face: u32,
-    pub tolerance: u32,
+    pub face: Face,
     // The number of the request that filled the word, and of the one that took it.
     pub filled: u32,
     pub taken: u32,
@@ -54,17 +53,17 @@ impl Words {
         ensures { MatchResult result (λ h. HandsOver self.old face h self.new) (λ e. RunsOut self.old e self.new) }
     {
         let filled = self.next;
-        let Some(next) = filled.checked_add(2) else {
-            return Err(Refusal::NumbersUsedUp);
-        };
+        let next = filled.checked_add(2).ok_or(Refusal::NumbersUsedUp)?;
         let word = self.line.word(face.number);
         let fill = FILL.serve(word, face.tolerance);
         let take = TAKE.serve(fill.word, 0);
         self.line.replace(face.number, take.word);
         self.next = next;
         Ok(Handed {
-            face: face.number,
-            tolerance: take.value,
+            face: Face {
+                tolerance: take.value,
+                ..face
+            },
             filled,
             taken: filled + 1,
         })
@@ -85,8 +84,7 @@ impl fmt::Display for Fault {
         match self {
             Fault::NoMemory => write!(f, "there is not enough memory"),
             Fault::Rejected(refusal) => {
-                let number = u8::from(*refusal);
-                write!(f, "a request was refused with number {number}")
+                write!(f, "a request was refused with number {}", u8::from(*refusal))
             }
         }
     }

@@ -10,13 +10,10 @@ impl fmt::Display for Handed {
     ghost output = { λ h. Some (shown_handed h) };
 
     fn fmt<W: fmt::Write>(&self, f: &mut fmt::Formatter<W>) -> fmt::Result {
-        let face = self.face;
-        let tolerance = self.tolerance;
-        let filled = self.filled;
-        let taken = self.taken;
         write!(
             f,
-            "face {face}: tolerance {tolerance}, filled by request {filled}, taken by request {taken}"
+            "face {}: tolerance {}, filled by request {}, taken by request {}",
+            self.face.number, self.face.tolerance, self.filled, self.taken
         )
     }
 }
@@ -25,19 +22,15 @@ impl fmt::Display for Handed {
 pub fn each_kept(faces: &[Face], handed: &[Handed]) -> bool
     ensures { Decides result (KeepsItsTolerance faces.now handed.now) }
 {
-    if handed.len() != faces.len() {
-        return false;
-    }
-    for (i, face) in faces.iter().enumerate() {
-        if handed[i].face != face.number || handed[i].tolerance != face.tolerance {
-            return false;
-        }
-    }
-    true
+    handed.len() == faces.len()
+        && handed
+            .iter()
+            .zip(faces)
+            .all(|(one, face)| one.face == *face)
 }
 
 // The closing line.
-#[derive(Clone, Copy)]
+#[derive(Clone, Copy, Debug, PartialEq, Eq)]
 pub struct Totals {
     pub faces: usize,
     pub requests: usize,
@@ -73,9 +66,12 @@ impl fmt::Display for Totals {
     ghost output = { λ t. Some (shown_totals t) };
 
     fn fmt<W: fmt::Write>(&self, f: &mut fmt::Formatter<W>) -> fmt::Result {
-        let faces = self.faces;
-        let requests = self.requests;
-        let kept = in_words(self.kept);
-        write!(f, "{faces} faces, {requests} requests: {kept}")
+        write!(
+            f,
+            "{} faces, {} requests: {}",
+            self.faces,
+            self.requests,
+            in_words(self.kept)
+        )
     }
 }

@@ -58,20 +58,26 @@ fn lost_tolerance_is_seen(rt: HostRuntime) {
         },
     ];
     let first = Handed {
-        face: 1,
-        tolerance: 6,
+        face: Face {
+            number: 1,
+            tolerance: 6,
+        },
         filled: 1,
         taken: 2,
     };
     let second = Handed {
-        face: 2,
-        tolerance: 7,
+        face: Face {
+            number: 2,
+            tolerance: 7,
+        },
         filled: 3,
         taken: 4,
     };
     let wrong = Handed {
-        face: 2,
-        tolerance: 6,
+        face: Face {
+            number: 2,
+            tolerance: 6,
+        },
         filled: 3,
         taken: 4,
     };
@@ -84,8 +90,10 @@ fn lost_tolerance_is_seen(rt: HostRuntime) {
 #[test]
 fn lines_read_as_sentences(rt: HostRuntime) -> Result<(), Fail> {
     let one = Handed {
-        face: 3,
-        tolerance: 8,
+        face: Face {
+            number: 3,
+            tolerance: 8,
+        },
         filled: 5,
         taken: 6,
     };

@@ -1,20 +1,12 @@
-use Rattle.std.proofs.Common.{refl, ap, arith}
-use Rattle.mould.specs.declared.plan.Face.{Face}
-use Rattle.mould.proofs.Handing.{kept_length, kept_at, kept_from}
+use Rattle.std.proofs.Common.{◌∙◌, rules, tests}
+use Rattle.std.proofs.lemmas.List.{length-map}
+use Rattle.std.proofs.lemmas.Iterator.{YieldsList-from_slice, YieldsList-from_zip, same_from_all}
+use Rattle.mould.specs.declared.exchange.Handed.{Handed}
+use Rattle.mould.proofs.Chains.{YieldsList-seen_by}
 use Rattle.mould.proofs.report.each_kept.Goals as goal
 
 pub returns-then-handed-faces : goal.returns-then-handed-faces
-returns-then-handed-faces c = (λ z. grind arith, λ e. let long = kept_length _ _ e in grind arith)
-
-pub returns-then-handed-i : goal.returns-then-handed-i
-returns-then-handed-i c = (
-  λ z. grind arith,
-  λ e.
-      let here = kept_at _ _ e c.loop-i.i (omega arith) in
-      let number = ap (λ (f : Face). f.number) here in
-      let tolerance = ap (λ (f : Face). f.tolerance) here in
-      grind arith,
-)
-
-pub returns : goal.returns
-returns c = (λ _. kept_from _ _ c.if-handed-faces.false (λ k h. c.loop-i.invariant k (omega arith)), λ _. refl)
+returns-then-handed-faces c =
+    let ours = YieldsList-seen_by (λ (h : Handed). h.face) (YieldsList-from_slice {s = c.zip.result.a} c.args.handed.now cc) in
+    let theirs = YieldsList-from_slice {s = c.zip.result.b} c.args.faces.now cc in
+    same_from_all c.all.new.self _ _ _ c.args.faces.now c.all.ensures.ran (YieldsList-from_zip ours theirs) (length-map c.args.handed.now (λ (h : Handed). h.face) ∙ c.if-handed-faces.true) (λ x q k. search (rules, tests)) (λ x q k. search (rules, tests))
