@@ -1,32 +1,15 @@
 -- What was carried out: each face with its tolerance and the two requests that brought it.
-use Rattle.std.specs.Prelude.{◌≡◌, ℕ, ◌+◌, ◌^◌, ◌≤◌, Bool, true, false, List, [], ◌∷◌, ◌++◌, map, codes, decimal}
+use Rattle.std.specs.Prelude.{◌≡◌, ℕ, ◌+◌, Bool, true, false, List, [], ◌∷◌, ◌++◌, map, codes, decimal}
 use Rattle.tagged.specs.Refusals.{refusal_number}
-use Rattle.tagged.specs.Words.{with_word}
-use Rattle.tagged.specs.declared.refusals.Refusal.{Refusal}
-use Rattle.tagged.specs.declared.refusals.Refusal.TheVariants.{NumbersUsedUp}
-use Rattle.tagged.specs.declared.words.WordState.TheVariants.{Empty}
 use Rattle.mould.specs.declared.exchange.Fault.{Fault}
 use Rattle.mould.specs.declared.exchange.Fault.TheVariants.{NoMemory, Rejected}
 use Rattle.mould.specs.declared.exchange.Handed.{Handed}
-use Rattle.mould.specs.declared.exchange.words.Words.{Words}
 use Rattle.mould.specs.declared.plan.Face.{Face}
 use Rattle.mould.specs.declared.report.Totals.{Totals}
 
 -- request n fills the word, and request n + 1 takes it
 abbrev pub handed_by : ℕ → Face → Handed
 handed_by n f = record { face = f; filled = n; taken = n + 1 }
-
--- the word that the face went through holds its tolerance, and is empty again
-pub record HandsOver (before : Words) (f : Face) (h : Handed) (after : Words) : Type 0 where
-  pub handed : h ≡ handed_by before.next f
-  pub numbers : after.next ≡ before.next + 2
-  pub words : after.line ≡ with_word before.line f.number (record { value = f.tolerance; state = Empty })
-
--- there are not two request numbers left, and nothing changed
-pub record RunsOut (before : Words) (e : Refusal) (after : Words) : Type 0 where
-  pub refusal : e ≡ NumbersUsedUp
-  pub numbers : 2 ^ 32 ≤ before.next + 2
-  pub words : after ≡ before
 
 -- one face after the other, from request n on
 abbrev pub all_handed_from : ℕ → List Face → List Handed

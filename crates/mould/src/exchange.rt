@@ -1,7 +1,7 @@
 // The hand-over through bare tagged words, one face at a time.
-ghost use Rattle.std.specs.Prelude.{◌≡◌, ◌+◌, ◌*◌, ◌^◌, ◌≤◌, length, IfOk, Err, MatchResult, Some};
-ghost use Rattle.tagged.specs.Words.{blank};
-ghost use Rattle.mould.specs.Handed.{all_handed_from, KeepsItsTolerance, HandsOver, RunsOut, shown_fault};
+ghost use Rattle.std.specs.Prelude.{◌≡◌, ℕ, ◌+◌, ◌*◌, ◌^◌, ◌≤◌, length, IfOk, Err, MatchResult, Some};
+ghost use Rattle.tagged.specs.Words.{blank, word_at, state_number};
+ghost use Rattle.mould.specs.Handed.{all_handed_from, KeepsItsTolerance, shown_fault};
 ghost use Rattle.mould.specs.declared.exchange.Fault.TheVariants.{NoMemory, Rejected};
 
 use crate::plan::Face;
@@ -11,10 +11,6 @@ use std::fmt;
 use tagged::operations::{Class, Operation};
 use tagged::refusals::Refusal;
 use tagged::words::Line;
-
-pub mod words;
-
-pub use words::Words;
 
 // A write that needs an empty word and leaves it full.
 const FILL: Operation = Operation::Write {
@@ -37,7 +33,18 @@ pub struct Handed {
     pub taken: u32,
 }
 
+// Four words that planner and probe share, all empty between two hand-overs, and the number of
+// the next request.
+#[derive(Drop)]
+pub struct Words {
+    pub line: Line,
+    pub next: u32,
+    ghost idle: { (k : ℕ) → state_number (word_at line k).state ≡ 0 },
+}
+
 impl Words {
+    ghost use Rattle.mould.specs.Words.{HandsOver, RunsOut};
+
     // Four empty words, and the number of the first request.
     pub fn starting_at(number: u32) -> Words
         ensures { (result.next ≡ number) × (result.line ≡ blank) }
