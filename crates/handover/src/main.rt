@@ -1,7 +1,7 @@
 // Hands the faces of a mould from planner to probe, and prints what was carried out.
 #![tactic(auto)]
 
-use anyhow::anyhow;
+use anyhow::{Context, ensure};
 use mould::exchange::carry_out;
 use mould::plan::{MOST_FACES, face_count, first_faces};
 use mould::report::Totals;
@@ -16,26 +16,23 @@ fn wanted(rt: &HostRuntime) -> anyhow::Result<u32> {
     let Some(text) = args.next() else {
         return Ok(FACES_UNLESS_TOLD);
     };
-    if args.next().is_some() {
-        return Err(anyhow!("the number of faces is the only argument"));
-    }
-    match face_count(text.as_str()) {
-        Some(count) => Ok(count),
-        None => Err(anyhow!(format!(in rt.alloc();
-            "the number of faces is 0 to {MOST_FACES}, not '{text}'"
-        )?)),
-    }
+    ensure!(
+        args.next().is_none(),
+        "the number of faces is the only argument"
+    );
+    face_count(&text).context(format_args!(
+        "the number of faces is 0 to {MOST_FACES}, not '{text}'"
+    ))
 }
 
 fn run(rt: &HostRuntime) -> anyhow::Result<()> {
     let count = wanted(rt)?;
     let faces = first_faces(rt.alloc(), count)?;
-    let handed = carry_out(rt.alloc(), faces.as_slice())?;
-    for one in handed.iter() {
+    let handed = carry_out(rt.alloc(), &faces)?;
+    for one in &handed {
         println!(rt; "{one}")?;
     }
-    let totals = Totals::of(faces.as_slice(), handed.as_slice());
-    println!(rt; "{totals}")?;
+    println!(rt; "{}", Totals::of(&faces, &handed))?;
     Ok(())
 }
 
