@@ -15,21 +15,17 @@ fn next(seed: &mut u32) -> u32 {
 
 fn random_line(seed: &mut u32) -> Line {
     let mut line = Line::blank();
-    for k in 0..4 {
-        line.values[k] = next(seed).wrapping_mul(65_537);
+    for (value, state) in line.values.iter_mut().zip(&mut line.states) {
+        *value = next(seed).wrapping_mul(65_537);
         if next(seed) % 2 == 1 {
-            line.states[k] = WordState::Full;
+            *state = WordState::Full;
         }
     }
     line
 }
 
 fn random_lines(heap: Global, seed: &mut u32, count: u32) -> Result<Vec<Line>, AllocError> {
-    let mut lines = Vec::new(heap);
-    for _ in 0..count {
-        lines.push(random_line(seed))?;
-    }
-    Ok(lines)
+    (0..count).map(|_| random_line(seed)).collect(heap)
 }
 
 fn same(a: &Line, b: &Line) -> bool {
@@ -37,14 +33,13 @@ fn same(a: &Line, b: &Line) -> bool {
 }
 
 fn compare(rt: &impl Abort, memory: &impl Memory, lines: &[Line]) -> Result<(), Fail> {
-    let mut n = 0u32;
-    for line in lines {
+    for (n, line) in (0..).zip(lines) {
         assert!(rt; same(&memory.read(n), line), "a line is not read back");
-        n = n.wrapping_add(1);
     }
-    assert_eq!(rt; memory.line_count(), n);
+    let count = u32::try_from(lines.len())?;
+    assert_eq!(rt; memory.line_count(), count);
     assert!(rt;
-        same(&memory.read(n), &Line::blank()),
+        same(&memory.read(count), &Line::blank()),
         "past the end is not blank"
     );
     Ok(())
@@ -112,14 +107,9 @@ fn line_counts_at_the_limits(rt: HostRuntime) -> Result<(), Fail> {
     ];
     for (count, length, expected) in cases {
         let mut bytes = vec![in rt.alloc(); 0u8; length]?;
-        let [a, b, c, d] = count.to_le_bytes();
-        let slice = bytes.as_mut_slice();
-        assert!(rt; slice.len() >= 4);
-        slice[0] = a;
-        slice[1] = b;
-        slice[2] = c;
-        slice[3] = d;
-        assert_eq!(rt; told(slice), expected);
+        assert!(rt; bytes.len() >= 4);
+        bytes[..4].copy_from_slice(&count.to_le_bytes());
+        assert_eq!(rt; told(&bytes), expected);
     }
     Ok(())
 }

@@ -64,15 +64,13 @@ fn columns(operation: Operation, state: WordState) -> [u32; 6] {
 }
 
 fn compare(rt: &impl Abort, rows: &[Row], state: WordState) -> Result<(), Fail> {
-    let mut code = 0u8;
-    for (name, expected) in rows {
+    assert_eq!(rt; rows.len(), 17);
+    for (code, (name, expected)) in (0..).zip(rows) {
         let operation = Operation::try_from(name.as_slice())?;
         assert_eq!(rt; columns(operation, state), *expected);
         assert_eq!(rt; operation.name(), *name);
         assert_eq!(rt; u8::from(operation), code);
-        code = code.wrapping_add(1);
     }
-    assert_eq!(rt; code, 17);
     Ok(())
 }
 
