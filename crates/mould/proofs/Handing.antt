@@ -1,19 +1,22 @@
--- One face more is handed over.
-use Rattle.std.proofs.Common.{◌≡◌, ℕ, ◌+◌, ◌<◌, ◌≤◌, List, [], ◌∷◌, ◌++◌, length, get_or, drop, sym, refl, ap, ◌∙◌, append_assoc, append-nil, add-one, drop-cons}
-use Rattle.std.proofs.lemmas.List.{drop_all}
+-- What hand-overs one after another make.
+use Rattle.std.proofs.Common.{◌≡◌, ℕ, ◌+◌, ◌*◌, ◌<◌, List, [], ◌∷◌, ◌++◌, length, take, slice_index_or, refl, ap, arith}
+use Rattle.std.proofs.lemmas.List.{take_more, length-take-le}
 use Rattle.mould.specs.declared.exchange.Handed.{Handed}
 use Rattle.mould.specs.declared.plan.Face.{Face}
 use Rattle.mould.specs.Handed.{handed_by, all_handed_from, KeepsItsTolerance}
 
-module _ (done all more : List Handed) (n m i : ℕ) (fs : List Face) (h : Handed) (d : Face) where
-  pub handed_more : more ≡ done ++ h ∷ [] → h ≡ handed_by n (get_or fs i d) → m ≡ n + 2 → i < length fs → done ++ all_handed_from n (drop i fs) ≡ all → more ++ all_handed_from m (drop (i + 1) fs) ≡ all
-  handed_more pushed is two within e =
-      let next : drop i fs ≡ get_or fs i d ∷ drop (i + 1) fs = drop-cons fs i d within ∙ ap (λ k. get_or fs i d ∷ drop k fs) (sym (add-one i)) in
-      rw (pushed, two, is) (append_assoc done (handed_by n (get_or fs i d) ∷ []) (all_handed_from (n + 2) (drop (i + 1) fs)) ∙ ap (λ l. done ++ all_handed_from n l) (sym next) ∙ e)
+all_handed_from-push : (n : ℕ) (fs : List Face) (f : Face) → all_handed_from n (fs ++ f ∷ []) ≡ all_handed_from n fs ++ handed_by (n + 2 * length fs) f ∷ []
+all_handed_from-push n [] f = grind arith
+all_handed_from-push n (g ∷ fs) f = grind (arith, all_handed_from-push (n + 2) fs f)
 
-pub handed_keeps : (n : ℕ) (fs : List Face) → KeepsItsTolerance fs (all_handed_from n fs)
+-- one face more is handed over
+pub handed_more : (i : ℕ) (fs : List Face) → i < length fs → all_handed_from 1 (take (i + 1) fs) ≡ all_handed_from 1 (take i fs) ++ handed_by (2 * i + 1) (slice_index_or fs i (record { number = 0; tolerance = 0 })) ∷ []
+handed_more i fs h = grind (arith, take_more fs i (record { number = 0; tolerance = 0 }) h, all_handed_from-push 1 (take i fs), length-take-le)
+
+handed_keeps : (n : ℕ) (fs : List Face) → KeepsItsTolerance fs (all_handed_from n fs)
 handed_keeps n [] = refl
 handed_keeps n (f ∷ fs) = ap (λ l. f ∷ l) (handed_keeps (n + 2) fs)
 
-pub handed_all : (done all : List Handed) (n i : ℕ) (fs : List Face) → length fs ≤ i → done ++ all_handed_from n (drop i fs) ≡ all → done ≡ all
-handed_all done all n i fs past e = sym (append-nil done) ∙ ap (λ l. done ++ all_handed_from n l) (sym (drop_all i fs past)) ∙ e
+-- what is handed over from the first number on keeps its tolerances
+pub handed_all : (fs : List Face) (hs : List Handed) → hs ≡ all_handed_from 1 fs → KeepsItsTolerance fs hs
+handed_all fs hs e = rw e (handed_keeps 1 fs)

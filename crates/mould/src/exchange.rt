@@ -124,6 +124,7 @@ impl From<Refusal> for Fault {
 }
 
 // Hands the faces over in their order, and gives what the probe then has.
+#[tactic(auto, using(crate::proofs::Handing::handed_more))]
 pub fn carry_out(heap: Global, faces: &[Face]) -> Result<Vec<Handed>, Fault>
     ensures handed { IfOk result (λ v. v.items ≡ all_handed_from 1 faces.now) }
     ensures keeps { IfOk result (λ v. KeepsItsTolerance faces.now v.items) }

@@ -8,5 +8,7 @@ use Rattle.mould.proofs.plan.first_faces.Goals as goal
 pub returns : goal.returns
 returns c =
     let numbers = YieldsList-from_range_inclusive {s = c.map.result.iter} 1 c.args.count (cc) (cc) (cc) in
-    let faces = fact_from_collect (λ xs v. (v.items ≡ xs) × (vec_len v ≡ length xs)) c.collect.result c.collect.ensures.ran (YieldsList-from_map _ face_numbered numbers c.map.ensures.closure (λ x r q k. search rules)) in
+    let faces =
+    fact_from_collect (λ xs v. (v.items ≡ xs) × (vec_len v ≡ length xs)) c.collect.result c.collect.ensures.ran
+    (YieldsList-from_map _ face_numbered numbers c.map.ensures.closure (λ x r q k. search rules)) in
     search rules
