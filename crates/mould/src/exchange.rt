@@ -99,6 +99,7 @@ impl fmt::Display for Fault {
 
 impl Error for Fault {}
 
+// `collect` and `push` fail with types of their own, and no bound fits these two and not `Refusal`.
 impl From<AllocError> for Fault {
     ghost from_gives = { λ _ r. r ≡ NoMemory };
 
@@ -132,6 +133,7 @@ pub fn carry_out(heap: Global, faces: &[Face]) -> Result<Vec<Handed>, Fault>
 {
     let mut words = Words::starting_at(1);
     let mut all = Vec::new(heap);
+    // Each hand-over changes the words, so no contract of a chain says what it gives.
     for face in faces {
         all.push(words.hand_over(*face)?)?;
     }
