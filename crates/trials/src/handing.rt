@@ -37,11 +37,16 @@ fn counts_are_read_or_refused(rt: HostRuntime) {
 #[test]
 fn four_thousand_faces_keep_their_tolerances(rt: HostRuntime) -> Result<(), Fail> {
     let faces = first_faces(rt.alloc(), 4000)?;
-    let handed = carry_out(rt.alloc(), faces.as_slice())?;
-    let totals = Totals::of(faces.as_slice(), handed.as_slice());
-    assert_eq!(rt; totals.faces, 4000);
-    assert_eq!(rt; totals.requests, 8000);
-    assert!(rt; totals.kept);
+    let handed = carry_out(rt.alloc(), &faces)?;
+    let totals = Totals::of(&faces, &handed);
+    assert_eq!(rt;
+        totals,
+        Totals {
+            faces: 4000,
+            requests: 8000,
+            kept: true,
+        }
+    );
     Ok(())
 }
 
@@ -75,11 +80,10 @@ fn lost_tolerance_is_seen(rt: HostRuntime) {
     };
     let wrong = Handed {
         face: Face {
-            number: 2,
             tolerance: 6,
+            ..second.face
         },
-        filled: 3,
-        taken: 4,
+        ..second
     };
     assert!(rt; each_kept(&faces, &[first, second]));
     assert!(rt; !each_kept(&faces, &[first, wrong]));
