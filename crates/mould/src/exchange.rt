@@ -99,7 +99,8 @@ impl fmt::Display for Fault {
 
 impl Error for Fault {}
 
-// `collect` and `push` fail with types of their own, and no bound fits these two and not `Refusal`.
+// `collect` fails with an `AllocError` and `push` with an `AllocFailed`: one impl for both would
+// clash with that for `Refusal`.
 impl From<AllocError> for Fault {
     ghost from_gives = { λ _ r. r ≡ NoMemory };
 
@@ -133,7 +134,7 @@ pub fn carry_out(heap: Global, faces: &[Face]) -> Result<Vec<Handed>, Fault>
 {
     let mut words = Words::starting_at(1);
     let mut all = Vec::new(heap);
-    // Each hand-over changes the words, so no contract of a chain says what it gives.
+    // A loop: each hand-over changes the words, so a chain's contract would say too little.
     for face in faces {
         all.push(words.hand_over(*face)?)?;
     }
