@@ -28,18 +28,15 @@ fn random_lines(heap: Global, seed: &mut u32, count: u32) -> Result<Vec<Line>, A
     (0..count).map(|_| random_line(seed)).collect(heap)
 }
 
-fn same(a: &Line, b: &Line) -> bool {
-    a.values == b.values && a.states == b.states
-}
-
 fn compare(rt: &impl Abort, memory: &impl Memory, lines: &[Line]) -> Result<(), Fail> {
     for (n, line) in (0..).zip(lines) {
-        assert!(rt; same(&memory.read(n), line), "a line is not read back");
+        assert_eq!(rt; memory.read(n), *line, "a line is not read back");
     }
     let count = u32::try_from(lines.len())?;
     assert_eq!(rt; memory.line_count(), count);
-    assert!(rt;
-        same(&memory.read(count), &Line::blank()),
+    assert_eq!(rt;
+        memory.read(count),
+        Line::blank(),
         "past the end is not blank"
     );
     Ok(())
@@ -137,7 +134,7 @@ fn refused_bytes_are_a_memory_without_lines(rt: HostRuntime) {
     let mut memory = Picture::over(&mut bytes);
     assert_eq!(rt; memory.line_count(), 0);
     memory.write(0, Line::blank());
-    assert!(rt; same(&memory.read(0), &Line::blank()));
+    assert_eq!(rt; memory.read(0), Line::blank());
     assert_eq!(rt; bytes, [3u8; 20]);
 }
 
@@ -148,11 +145,11 @@ fn chip_has_64_lines(rt: HostRuntime) {
     assert_eq!(rt; chip.line_count(), 64);
     let line = random_line(&mut seed);
     for n in 0..66 {
-        assert!(rt; same(&chip.read(n), &Line::blank()));
+        assert_eq!(rt; chip.read(n), Line::blank());
     }
     chip.write(63, line);
     chip.write(64, line);
-    assert!(rt; same(&chip.read(63), &line));
-    assert!(rt; same(&chip.read(62), &Line::blank()));
-    assert!(rt; same(&chip.read(64), &Line::blank()));
+    assert_eq!(rt; chip.read(63), line);
+    assert_eq!(rt; chip.read(62), Line::blank());
+    assert_eq!(rt; chip.read(64), Line::blank());
 }
