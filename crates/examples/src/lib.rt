@@ -10,14 +10,14 @@ use tagged::rule::Served;
 use tagged::words::{Word, WordState};
 
 // What each example gives.
-#[derive(Clone, Copy)]
+#[derive(Clone, Copy, Debug, PartialEq, Eq)]
 pub struct Examples {
     pub words: WordExamples,
     pub protocols: ProtocolExamples,
 }
 
 // One operation on one word.
-#[derive(Clone, Copy)]
+#[derive(Clone, Copy, Debug, PartialEq, Eq)]
 pub struct WordExamples {
     // A word 9, full: WARd, NAWr 4, UACl, UAWr 4.
     pub taken: Served,
@@ -30,7 +30,7 @@ pub struct WordExamples {
 }
 
 // State codes of copies of one line.
-#[derive(Clone, Copy)]
+#[derive(Clone, Copy, Debug, PartialEq, Eq)]
 pub struct ProtocolExamples {
     // MESI: core 0 reads the line first, core 1 reads it too, core 1 claims it.
     pub first: u8,

@@ -78,7 +78,7 @@ impl Words {
 }
 
 // Why a hand-over ended early.
-#[derive(Debug, Drop)]
+#[derive(Debug, PartialEq, Eq, Drop)]
 pub enum Fault {
     NoMemory,
     Rejected(Refusal),
