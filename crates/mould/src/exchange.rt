@@ -91,7 +91,8 @@ impl fmt::Display for Fault {
         match self {
             Fault::NoMemory => write!(f, "there is not enough memory"),
             Fault::Rejected(refusal) => {
-                write!(f, "a request was refused with number {}", u8::from(*refusal))
+                let number = u8::from(*refusal);
+                write!(f, "a request was refused with number {number}")
             }
         }
     }
