@@ -1,12 +1,12 @@
 -- Writing one line of a picture, and a picture of blank lines.
-use Rattle.std.proofs.Common.{◌≡◌, ℕ, zero, suc, ◌+◌, ◌-◌, ◌*◌, ◌/◌, ◌%◌, ◌<◌, ◌≤◌, cond, leb, ◌⊎◌, List, [], ◌∷◌, ◌++◌, map, length, get_or, drop, set, replicate, sym, refl, ap, ◌∙◌, inl, inr, ⊎_elim, add_comm, mul-suc, arith}
+use Rattle.std.proofs.Common.{◌≡◌, ℕ, zero, suc, ◌+◌, ◌-◌, ◌*◌, ◌/◌, ◌%◌, ◌<◌, ◌≤◌, List, [], ◌∷◌, ◌++◌, map, length, get_or, drop, set, replicate, sym, refl, ap, ◌∙◌, inl, inr, ⊎_elim, add_comm, mul-suc, arith}
 use Rattle.std.specs.List.{flat_map}
 use Rattle.std.proofs.lemmas.List.FromFn.{length-map-range_with_len, get_or-map-range_with_len}
 use Rattle.std.proofs.lemmas.List.{get_or-append_right, length-append, length-set, ext_get_or, get_or-set_same, get_or-set_other, set_past, drop_at, length-replicate, get_or-replicate, get_or_append_left, replicate-append-replicate}
-use Rattle.std.proofs.lemmas.Bool.{cases_lt, cases_eq, cases_order, cases_Bool, cond-true, cond-false, leb-true, leb-false}
+use Rattle.std.proofs.lemmas.Bool.{cases_lt, cases_eq, cases_order}
 use Rattle.tagged.specs.Words.{blank}
 use Rattle.tagged.specs.declared.words.Line.{Line}
-use Rattle.memory.specs.Pictures.{four_bytes, number_at, values_of, state_byte, picture, picture_length, values_from, state_place, line_at, lines_at, fitting, PutsNumber, PutsLine, Proper}
+use Rattle.memory.specs.Pictures.{four_bytes, number_at, values_of, state_byte, picture, picture_length, values_from, state_place, line_at, lines_at, PutsNumber, PutsLine, Proper}
 use Rattle.memory.proofs.Places.{Bytes, line_from, four_here, joined_at, length_picture, header_at, value_at, state_at}
 
 module _ (ls : List Line) (more : List ℕ) (m : ℕ) (l : Line) (after : List ℕ) (within : m < length ls) (puts : PutsLine (length ls) (picture ls ++ more) m l after) (bytes : Bytes after) where
@@ -242,30 +242,3 @@ module _ (n m : ℕ) (before after : List ℕ) (l : Line) (within : m < n) (puts
       (λ e. ap (line_at n after) e ∙ line_from n after m l proper puts.first puts.second puts.third puts.fourth puts.states ∙ sym (get_or-set_same (lines_at n before) m l blank long) ∙ ap (λ i. get_or (set (lines_at n before) m l) i blank) (sym e))
       (λ ne. line_apart k lt ne ∙ sym (get_or-set_other (lines_at n before) m k l blank ne ∙ get_or-map-range_with_len (line_at n before) 0 n k k blank lt (omega arith)))
       (cases_eq k m))
-
--- lines are counted only where the bytes have room for them
-fitting_cases : (c : ℕ) (bs : List ℕ) → ((picture_length c ≤ length bs) × (fitting c bs ≡ c)) ⊎ ((length bs < picture_length c) × (fitting c bs ≡ 0))
-fitting_cases c bs = ⊎_elim (λ e. inl (leb-true _ _ e, cond-true _ c 0 e)) (λ e. inr (leb-false _ _ e, cond-false _ c 0 e)) (cases_Bool (leb (picture_length c) (length bs)))
-
--- line m of c is written, if it is one of the lines that fit
-module _ (c m : ℕ) (l : Line) (before after : List ℕ) where
-  pub lines_written : (m < c → picture_length c ≤ length before → PutsLine c before m l after × Proper l) → (((m < c) × (picture_length c ≤ length before) → ⊥) → after ≡ before) → lines_at (fitting c after) after ≡ set (lines_at (fitting c before) before) m l
-  lines_written puts stays = ⊎_elim (λ fits. ⊎_elim (inside fits) (λ past. outside (omega (arith, fits.1)) (λ both. omega (arith, both.0))) (cases_lt m c)) (λ short. outside (omega (arith, short.1)) (λ both. omega (arith, both.1, short.0))) (fitting_cases c before)
-    where
-      inside : (picture_length c ≤ length before) × (fitting c before ≡ c) → m < c → lines_at (fitting c after) after ≡ set (lines_at (fitting c before) before) m l
-      inside fits h =
-          let put = puts h fits.0 in
-          let same : fitting c after ≡ c = ap (λ k. cond (leb (picture_length c) k) c 0) put.0.long ∙ fits.1 in
-          ap (λ k. lines_at k after) same ∙ lines_put c m before after l h put.0 put.1 ∙ ap (λ k. set (lines_at k before) m l) (sym fits.1)
-
-      outside : fitting c before ≤ m → ((m < c) × (picture_length c ≤ length before) → ⊥) → lines_at (fitting c after) after ≡ set (lines_at (fitting c before) before) m l
-      outside h never =
-          ap (λ bs. lines_at (fitting c bs) bs) (stays never)
-          ∙ sym (set_past (lines_at (fitting c before) before) m l (omega (arith, length-map-range_with_len (line_at (fitting c before) before) 0 (fitting c before))))
-
-  -- the same where the bytes were a picture of the lines that fit
-  pub picture_written : ((ls : List Line) (more : List ℕ) → (length ls ≡ c) × (before ≡ picture ls ++ more) → after ≡ picture (set ls m l) ++ more) → (((m < c) × (picture_length c ≤ length before) → ⊥) → after ≡ before) → (ls : List Line) (more : List ℕ) → (length ls ≡ fitting c before) × (before ≡ picture ls ++ more) → after ≡ picture (set ls m l) ++ more
-  picture_written put stays ls more is =
-      ⊎_elim (λ fits. put ls more (is.0 ∙ fits.1, is.1))
-      (λ short. stays (λ both. omega (arith, both.1, short.0)) ∙ is.1 ∙ ap (λ x. picture x ++ more) (sym (set_past ls m l (omega (arith, is.0, short.1)))))
-      (fitting_cases c before)

@@ -1,5 +1,5 @@
 -- A memory as bytes: the picture of a list of lines, and the lines of a picture.
-use Rattle.std.specs.Prelude.{◌≡◌, ℕ, ◌+◌, ◌*◌, ◌/◌, ◌%◌, ◌^◌, ◌<◌, ◌≤◌, min, cond, ◌⊎◌, List, [], ◌∷◌, ◌++◌, map, length, get_or, ◌==◌, ◌≢◌, nat_le, slice_index, slice_index_or}
+use Rattle.std.specs.Prelude.{◌≡◌, ℕ, ◌+◌, ◌*◌, ◌/◌, ◌%◌, ◌^◌, ◌<◌, ◌≤◌, min, cond, ◌⊎◌, List, [], ◌∷◌, ◌++◌, map, length, get_or, ◌==◌, ◌≢◌, slice_index, slice_index_or}
 use Rattle.std.specs.List.{range_with_len, flat_map}
 use Rattle.memory.specs.declared.pictures.PictureFault.{PictureFault}
 use Rattle.memory.specs.declared.pictures.PictureFault.TheVariants.{Header, Length, State}
@@ -89,10 +89,6 @@ pub record Room (n : ℕ) (bs : List ℕ) : Type 0 where
   pub some : 1 ≤ n
   pub few : n ≤ 2048
   pub long : picture_length n ≤ length bs
-
--- n lines, or none where the bytes have no room for them
-abbrev pub fitting : ℕ → List ℕ → ℕ
-fitting n bs = cond (nat_le (picture_length n) (length bs)) n 0
 
 -- what is wrong with bytes that are no picture, first things first
 pub record HeaderFits (bs : List ℕ) : Type 0 where

@@ -134,19 +134,20 @@ pub(crate) fn line_at(bytes: &[u8], count: u32, n: u32) -> Line
 }
 
 // Replaces line `n` of a picture of `count` lines.
-fn put_line_at(bytes: &mut [u8], count: u32, n: u32, line: Line)
+pub(crate) fn put_line_at(bytes: &mut [u8], count: u32, n: u32, line: Line)
     requires long { picture_length count ≤ length bytes.old }
     requires within { n < count }
     ensures puts { PutsLine count bytes.old n line bytes.new }
     ensures proper { Proper line }
+    ensures picture { (ls : List Line) (more : List ℕ) → (length ls ≡ count) × (bytes.old ≡ picture ls ++ more) → bytes.new ≡ picture (slice_set ls n line) ++ more }
 {
+    bytes[4 + 16 * count as usize + n as usize] = state_byte(&line);
     let at = 4 + 16 * n as usize;
     let [a, b, c, d] = line.values;
     put_number(bytes, at, a);
     put_number(bytes, at + 4, b);
     put_number(bytes, at + 8, c);
     put_number(bytes, at + 12, d);
-    bytes[4 + 16 * count as usize + n as usize] = state_byte(&line);
 }
 
 // Makes the buffer's front a picture of `count` blank lines, and gives its length. The bytes after it stay.

@@ -1,5 +1,5 @@
 use Rattle.std.proofs.Common.{refl, arith, rules}
-use Rattle.memory.proofs.Writing.{line_put, line_kept, line_room}
+use Rattle.memory.proofs.Writing.{line_kept, line_room}
 use Rattle.memory.proofs.pictures.put_line.Goals as goal
 use Rattle.memory.proofs.pictures.put_line.Goals.{else-n-count-via-then-n-count+else-picture_length-buffer, else-n-count-via-else-n-count}
 
@@ -7,7 +7,7 @@ pub returns-then-picture_length-buffer : goal.returns-then-picture_length-buffer
 returns-then-picture_length-buffer c = record {
   puts = λ _ _. (c.put_line_at.ensures.puts, c.put_line_at.ensures.proper);
   stays = λ no. absurd (no (search rules, search rules));
-  picture = λ ls more is. line_put ls more _ _ _ _ _ is.0 is.1 c.if-n-count.true c.put_line_at.ensures.puts (λ k. let fits = c.type_inv.buffer k in omega arith);
+  picture = λ ls more is. c.put_line_at.ensures.picture ls more is;
 }
 
 pub returns-else-n-count : goal.returns-else-n-count

@@ -1,7 +1,11 @@
-use Rattle.memory.proofs.Writing.{lines_written, picture_written}
+use Rattle.std.proofs.Common.{arith}
+use Rattle.std.proofs.lemmas.Grind.{common_steps}
+use Rattle.std.proofs.lemmas.List.FromFn.{length-map-range_with_len}
+use Rattle.memory.proofs.Writing.{lines_put}
 use Rattle.memory.proofs.lent.PictureMemory.write.Goals as goal
 
-pub returns : goal.returns
-returns c =
-    let put = c.put_line.ensures in
-    record { lines = lines_written _ _ _ _ _ put.puts put.stays; picture = picture_written _ _ _ _ _ put.picture put.stays }
+pub returns-then-n-self-clause-lines : goal.returns-then-n-self-clause-lines
+returns-then-n-self-clause-lines c = lines_put _ _ _ _ _ c.if-n-self.true c.put_line_at.ensures.puts c.put_line_at.ensures.proper
+
+pub returns-else-n-self-clause-lines : goal.returns-else-n-self-clause-lines
+returns-else-n-self-clause-lines c = grind (arith, common_steps, length-map-range_with_len)
