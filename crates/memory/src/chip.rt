@@ -23,7 +23,12 @@ impl Chip {
 }
 
 impl Memory for Chip {
+    ghost use Rattle.std.specs.Prelude.{ℕ, ◌≤◌};
+    ghost use Rattle.std.proofs.Common.{subst, sym, lit≤};
+
     ghost lines = { λ m. m.lines };
+
+    ghost few = { λ m. subst (λ (k : ℕ). k ≤ 65536) (sym m.sized) (lit≤ tt) };
 
     fn line_count(&self) -> u32 {
         self.lines.len() as u32

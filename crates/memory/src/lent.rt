@@ -28,7 +28,14 @@ impl<'a> Picture<'a> {
 }
 
 impl Memory for Picture<'_> {
+    ghost use Rattle.std.proofs.Common.{subst, sym, lit≤};
+    ghost use Rattle.std.proofs.Math.Nat.{le_trans};
+    ghost use Rattle.std.proofs.lemmas.List.FromFn.{length-map-range_with_len};
+    ghost use Rattle.memory.specs.Pictures.{line_at};
+
     ghost lines = { λ m. lines_at m.count m.bytes.now };
+
+    ghost few = { λ m. subst (λ (k : ℕ). k ≤ 65536) (sym (length-map-range_with_len (line_at m.count m.bytes.now) 0 m.count)) (le_trans m.few (lit≤ tt)) };
 
     fn line_count(&self) -> u32 {
         self.count
