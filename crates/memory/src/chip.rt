@@ -1,23 +1,27 @@
 // The chip memory: lines of its own.
-ghost use Rattle.std.specs.Prelude.{◌≡◌, length, replicate};
-ghost use Rattle.tagged.specs.Words.{blank};
+ghost use Rattle.std.specs.Prelude.{◌≡◌, length};
 
 use crate::Memory;
 use tagged::words::Line;
 
-pub mod chips;
+const LINES: usize = 64;
 
-pub use chips::Chip;
-
-const LINES: u32 = 64;
+#[derive(Drop)]
+pub struct Chip {
+    pub lines: [Line; LINES],
+    ghost sized: { length lines ≡ 64 },
+}
 
 impl Chip {
+    ghost use Rattle.std.specs.Prelude.{replicate};
+    ghost use Rattle.tagged.specs.Words.{blank};
+
     // All lines four empty zeros.
     pub fn new() -> Chip
         ensures { result.lines ≡ replicate 64 blank }
     {
         Chip {
-            lines: [Line::blank(); 64],
+            lines: [Line::blank(); LINES],
         }
     }
 }
@@ -35,15 +39,14 @@ impl Memory for Chip {
     }
 
     fn read(&self, n: u32) -> Line {
-        match self.lines.get(n as usize) {
-            Some(line) => *line,
-            None => Line::blank(),
-        }
+        self.lines.get(n as usize).copied().unwrap_or(Line::blank())
     }
 
+    // By index, since the library says nothing of an array once `get_mut` has lent a part of it.
     fn write(&mut self, n: u32, line: Line) {
+        let n = n as usize;
         if n < LINES {
-            self.lines[n as usize] = line;
+            self.lines[n] = line;
         }
     }
 }
