@@ -10,7 +10,7 @@ use tagged::words::{Line, WordState};
 pub const MOST_LINES: u32 = 2048;
 
 // Why bytes are no picture, with the place of the fault in the bytes.
-#[derive(Clone, Copy, Debug)]
+#[derive(Clone, Copy, Debug, PartialEq, Eq)]
 pub enum PictureFault {
     Header,
     Length { place: usize },
@@ -18,23 +18,24 @@ pub enum PictureFault {
 }
 
 impl PictureFault {
-    pub fn refusal(self) -> Refusal
-        ensures { result ≡ fault_refusal self }
-    {
-        match self {
-            PictureFault::Header => Refusal::PictureHeader,
-            PictureFault::Length { .. } => Refusal::PictureLength,
-            PictureFault::State { .. } => Refusal::PictureState,
-        }
-    }
-
     pub fn place(self) -> usize
         ensures { result ≡ fault_place self }
     {
         match self {
             PictureFault::Header => 0,
-            PictureFault::Length { place } => place,
-            PictureFault::State { place } => place,
+            PictureFault::Length { place } | PictureFault::State { place } => place,
+        }
+    }
+}
+
+impl From<PictureFault> for Refusal {
+    ghost from_gives = { λ fault refusal. refusal ≡ fault_refusal fault };
+
+    fn from(fault: PictureFault) -> Refusal {
+        match fault {
+            PictureFault::Header => Refusal::PictureHeader,
+            PictureFault::Length { .. } => Refusal::PictureLength,
+            PictureFault::State { .. } => Refusal::PictureState,
         }
     }
 }

@@ -6,6 +6,7 @@ use memory::pictures::{PictureFault, check_picture, write_picture};
 use std::alloc::{AllocError, Global};
 use std::process::Abort;
 use std::test::Fail;
+use tagged::refusals::Refusal;
 use tagged::words::{Line, WordState};
 
 fn next(seed: &mut u32) -> u32 {
@@ -74,7 +75,7 @@ fn random_pictures_read_back(rt: HostRuntime) -> Result<(), Fail> {
 fn told(bytes: &[u8]) -> (u8, usize) {
     match check_picture(bytes) {
         Ok(count) => (0, count as usize),
-        Err(fault) => (u8::from(fault.refusal()), fault.place()),
+        Err(fault) => (u8::from(Refusal::from(fault)), fault.place()),
     }
 }
 
