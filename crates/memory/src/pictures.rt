@@ -58,12 +58,10 @@ pub fn check_picture(bytes: &[u8]) -> Result<u32, PictureFault>
             place: bytes.len().min(length),
         });
     }
-    for place in length - count as usize..length {
-        if bytes[place] > 15 {
-            return Err(PictureFault::State { place });
-        }
+    match (length - count as usize..length).find(|place| bytes[*place] > 15) {
+        Some(place) => Err(PictureFault::State { place }),
+        None => Ok(count),
     }
-    Ok(count)
 }
 
 // The length of a picture of `count` lines.
