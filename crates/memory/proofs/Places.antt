@@ -2,7 +2,7 @@
 use Rattle.std.proofs.Common.{◌≡◌, ℕ, zero, suc, ◌+◌, ◌-◌, ◌*◌, ◌/◌, ◌%◌, ◌^◌, ◌<◌, ◌≤◌, List, [], ◌∷◌, ◌++◌, map, length, get_or, sym, refl, ap, ◌∙◌, ⊎_elim, append-nil, mul-suc, arith}
 use Rattle.std.specs.List.{flat_map}
 use Rattle.std.proofs.lemmas.List.FromFn.{length-map-range_with_len, get_or-map-range_with_len}
-use Rattle.std.proofs.lemmas.List.{get_or_append_left, get_or-append_right, length-append, length-map, get_or-map, ext_get_or, get_or_past}
+use Rattle.std.proofs.lemmas.List.{get_or_append_left, get_or-append_right, length-append, length-map, get_or-map, ext_get_or}
 use Rattle.std.proofs.lemmas.Bool.{cases_lt}
 use Rattle.tagged.specs.Words.{blank}
 use Rattle.tagged.specs.declared.words.Line.{Line}
@@ -88,13 +88,9 @@ four_of (a ∷ b ∷ c ∷ []) d h = absurd (omega arith)
 four_of (a ∷ b ∷ c ∷ e ∷ []) d h = refl
 four_of (a ∷ b ∷ c ∷ e ∷ f ∷ fs) d h = absurd (omega arith)
 
--- four values that fit are all values that there are
-pub fits_from : (vs : List ℕ) → length vs ≡ 4 → get_or vs 0 0 < 2 ^ 32 → get_or vs 1 0 < 2 ^ 32 → get_or vs 2 0 < 2 ^ 32 → get_or vs 3 0 < 2 ^ 32 → (k : ℕ) → get_or vs k 0 < 2 ^ 32
-fits_from vs long a b c d zero = a
-fits_from vs long a b c d (suc zero) = b
-fits_from vs long a b c d (suc (suc zero)) = c
-fits_from vs long a b c d (suc (suc (suc zero))) = d
-fits_from vs long a b c d (suc (suc (suc (suc k)))) = omega (arith, get_or_past vs (suc (suc (suc (suc k)))) 0 (omega arith))
+-- a list of four is known by its elements
+pub four_are : {X : Type 0} (xs : List X) (d a b c e : X) → length xs ≡ 4 → get_or xs 0 d ≡ a → get_or xs 1 d ≡ b → get_or xs 2 d ≡ c → get_or xs 3 d ≡ e → xs ≡ a ∷ b ∷ c ∷ e ∷ []
+four_are xs d a b c e long first second third fourth = sym (four_of xs d long) ∙ (λ i. first i ∷ second i ∷ third i ∷ fourth i ∷ [])
 
 abbrev by_places : Line → Line
 by_places l = record {

@@ -3,6 +3,7 @@ ghost use Rattle.std.specs.Prelude.{◌≡◌, ℕ, ◌+◌, ◌*◌, ◌<◌, �
 ghost use Rattle.tagged.specs.Words.{blank};
 ghost use Rattle.memory.specs.Pictures.{number_at, state_byte, state_from, picture_length, line_count, line_at, lines_at, picture, PutsNumber, PutsLine, Room, Proper, Sound, Faulty, fault_refusal, fault_place};
 
+use std::array;
 use tagged::refusals::Refusal;
 use tagged::words::{Line, WordState};
 
@@ -76,18 +77,14 @@ fn number_at(bytes: &[u8], at: usize) -> u32
     requires { at + 4 ≤ length bytes.now }
     ensures { result ≡ number_at bytes.now at }
 {
-    u32::from_le_bytes([bytes[at], bytes[at + 1], bytes[at + 2], bytes[at + 3]])
+    u32::from_le_bytes(*bytes[at..].first_chunk().unwrap())
 }
 
 fn put_number(bytes: &mut [u8], at: usize, value: u32)
     requires { at + 4 ≤ length bytes.old }
     ensures { PutsNumber bytes.old at value bytes.new }
 {
-    let [a, b, c, d] = value.to_le_bytes();
-    bytes[at] = a;
-    bytes[at + 1] = b;
-    bytes[at + 2] = c;
-    bytes[at + 3] = d;
+    bytes[at..at + 4].copy_from_slice(&value.to_le_bytes());
 }
 
 // The state that a byte has for the place with this weight: 1, 2, 4 or 8.
@@ -104,8 +101,8 @@ fn state_from(bit: u8) -> WordState
 fn state_byte(line: &Line) -> u8
     ensures { result ≡ state_byte line.now }
 {
-    let [a, b, c, d] = line.states;
-    u8::from(a) + u8::from(b) * 2 + u8::from(c) * 4 + u8::from(d) * 8
+    let [a, b, c, d] = line.states.map(u8::from);
+    a + b * 2 + c * 4 + d * 8
 }
 
 // Line `n` of a picture of `count` lines.
@@ -117,18 +114,8 @@ pub(crate) fn line_at(bytes: &[u8], count: u32, n: u32) -> Line
     let at = 4 + 16 * n as usize;
     let bits = bytes[4 + 16 * count as usize + n as usize];
     Line {
-        values: [
-            number_at(bytes, at),
-            number_at(bytes, at + 4),
-            number_at(bytes, at + 8),
-            number_at(bytes, at + 12),
-        ],
-        states: [
-            state_from(bits % 2),
-            state_from(bits / 2 % 2),
-            state_from(bits / 4 % 2),
-            state_from(bits / 8 % 2),
-        ],
+        values: array::from_fn(|w| number_at(bytes, at + 4 * w)),
+        states: [bits, bits / 2, bits / 4, bits / 8].map(|bits| state_from(bits % 2)),
     }
 }
 
@@ -142,11 +129,9 @@ pub(crate) fn put_line_at(bytes: &mut [u8], count: u32, n: u32, line: Line)
 {
     bytes[4 + 16 * count as usize + n as usize] = state_byte(&line);
     let at = 4 + 16 * n as usize;
-    let [a, b, c, d] = line.values;
-    put_number(bytes, at, a);
-    put_number(bytes, at + 4, b);
-    put_number(bytes, at + 8, c);
-    put_number(bytes, at + 12, d);
+    for (w, value) in line.values.iter().enumerate() {
+        put_number(bytes, at + 4 * w, *value);
+    }
 }
 
 // Makes the buffer's front a picture of `count` blank lines, and gives its length. The bytes after it stay.
