@@ -1,7 +1,7 @@
 // A memory as bytes: the check of a picture, and reading and writing one line of it.
-ghost use Rattle.std.specs.Prelude.{◌≡◌, ℕ, ◌+◌, ◌*◌, ◌<◌, ◌≤◌, List, ◌++◌, length, drop, replicate, IfOk, MatchResult, OnOk, slice_set};
+ghost use Rattle.std.specs.Prelude.{◌≡◌, ℕ, ◌+◌, ◌*◌, ◌<◌, ◌≤◌, List, ◌++◌, length, drop, replicate, IfOk, MatchResult, OnOk, slice_index, slice_set};
 ghost use Rattle.tagged.specs.Words.{blank};
-ghost use Rattle.memory.specs.Pictures.{number_at, state_byte, state_from, picture_length, line_count, line_at, lines_at, picture, PutsNumber, PutsLine, Room, Proper, Sound, Faulty, fault_refusal, fault_place};
+ghost use Rattle.memory.specs.Pictures.{number_at, state_byte, state_from, picture_length, values_from, state_place, line_count, line_at, lines_at, picture, PutsNumber, PutsLine, Room, Proper, Sound, Faulty, fault_refusal, fault_place};
 
 use std::array;
 use tagged::refusals::Refusal;
@@ -59,17 +59,31 @@ pub fn check_picture(bytes: &[u8]) -> Result<u32, PictureFault>
             place: bytes.len().min(length),
         });
     }
-    match (length - count as usize..length).find(|place| bytes[*place] > 15) {
+    match (state_place(count, 0)..length).find(|place| bytes[*place] > 15) {
         Some(place) => Err(PictureFault::State { place }),
         None => Ok(count),
     }
 }
 
 // The length of a picture of `count` lines.
-pub(crate) fn picture_length(count: u32) -> usize
+fn picture_length(count: u32) -> usize
     ensures { result ≡ picture_length count }
 {
     4 + 17 * count as usize
+}
+
+// Where the values of line `n` begin.
+fn values_from(n: u32) -> usize
+    ensures { result ≡ values_from n }
+{
+    4 + 16 * n as usize
+}
+
+// Where the states of line `n` stand in a picture of `count` lines.
+fn state_place(count: u32, n: u32) -> usize
+    ensures { result ≡ state_place count n }
+{
+    values_from(count) + n as usize
 }
 
 // The number that four bytes write, the low one first.
@@ -80,9 +94,11 @@ fn number_at(bytes: &[u8], at: usize) -> u32
     u32::from_le_bytes(*bytes[at..].first_chunk().unwrap())
 }
 
+// That the bytes are below 256 is said for a slice in a struct, of which a proof does not know its type's range.
 fn put_number(bytes: &mut [u8], at: usize, value: u32)
     requires { at + 4 ≤ length bytes.old }
-    ensures { PutsNumber bytes.old at value bytes.new }
+    ensures puts { PutsNumber bytes.old at value bytes.new }
+    ensures bytes { (k : ℕ) → slice_index bytes.new k < 256 }
 {
     bytes[at..at + 4].copy_from_slice(&value.to_le_bytes());
 }
@@ -105,32 +121,41 @@ fn state_byte(line: &Line) -> u8
     a + b * 2 + c * 4 + d * 8
 }
 
-// Line `n` of a picture of `count` lines.
-pub(crate) fn line_at(bytes: &[u8], count: u32, n: u32) -> Line
-    requires long { picture_length count ≤ length bytes.now }
-    requires within { n < count }
-    ensures { result ≡ line_at count bytes.now n }
-{
-    let at = 4 + 16 * n as usize;
-    let bits = bytes[4 + 16 * count as usize + n as usize];
-    Line {
-        values: array::from_fn(|w| number_at(bytes, at + 4 * w)),
-        states: [bits, bits / 2, bits / 4, bits / 8].map(|bits| state_from(bits % 2)),
-    }
+// The lines of a picture at a buffer's front. Where there are none, the buffer may be of any length.
+#[derive(Drop)]
+pub(crate) struct Front<'a> {
+    pub bytes: &'a mut [u8],
+    pub count: u32,
+    ghost fits: { 0 < count → picture_length count ≤ length bytes.now },
 }
 
-// Replaces line `n` of a picture of `count` lines.
-pub(crate) fn put_line_at(bytes: &mut [u8], count: u32, n: u32, line: Line)
-    requires long { picture_length count ≤ length bytes.old }
-    requires within { n < count }
-    ensures puts { PutsLine count bytes.old n line bytes.new }
-    ensures proper { Proper line }
-    ensures picture { (ls : List Line) (more : List ℕ) → (length ls ≡ count) × (bytes.old ≡ picture ls ++ more) → bytes.new ≡ picture (slice_set ls n line) ++ more }
-{
-    bytes[4 + 16 * count as usize + n as usize] = state_byte(&line);
-    let at = 4 + 16 * n as usize;
-    for (w, value) in line.values.iter().enumerate() {
-        put_number(bytes, at + 4 * w, *value);
+impl Front<'_> {
+    pub fn line(&self, n: u32) -> Line
+        requires { n < self.now.count }
+        ensures { result ≡ line_at self.now.count self.now.bytes.now n }
+    {
+        let at = values_from(n);
+        let bits = self.bytes[state_place(self.count, n)];
+        Line {
+            values: array::from_fn(|w| number_at(self.bytes, at + 4 * w)),
+            states: [bits, bits / 2, bits / 4, bits / 8].map(|bits| state_from(bits % 2)),
+        }
+    }
+
+    pub fn replace(&mut self, n: u32, line: Line)
+        requires { n < self.old.count }
+        ensures same_reference { self.new.bytes.ghost_name ≡ self.old.bytes.ghost_name }
+        ensures count { self.new.count ≡ self.old.count }
+        ensures puts { PutsLine self.old.count self.old.bytes.now n line self.new.bytes.now }
+        ensures proper { Proper line }
+        ensures picture { (ls : List Line) (more : List ℕ) → (length ls ≡ self.old.count) × (self.old.bytes.now ≡ picture ls ++ more) → self.new.bytes.now ≡ picture (slice_set ls n line) ++ more }
+    {
+        let bytes = &mut *self.bytes;
+        bytes[state_place(self.count, n)] = state_byte(&line);
+        let at = values_from(n);
+        for (w, value) in line.values.iter().enumerate() {
+            put_number(bytes, at + 4 * w, *value);
+        }
     }
 }
 
@@ -157,7 +182,11 @@ pub fn put_line(buffer: &mut [u8], count: u32, n: u32, line: Line)
     ensures picture { (ls : List Line) (more : List ℕ) → (length ls ≡ count) × (buffer.old ≡ picture ls ++ more) → buffer.new ≡ picture (slice_set ls n line) ++ more }
 {
     if n < count && picture_length(count) <= buffer.len() {
-        put_line_at(buffer, count, n, line);
+        let mut front = Front {
+            bytes: buffer,
+            count,
+        };
+        front.replace(n, line);
     }
 }
 

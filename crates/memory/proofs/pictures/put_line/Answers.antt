@@ -1,14 +1,7 @@
-use Rattle.std.proofs.Common.{refl, arith, rules}
+use Rattle.std.proofs.Common.{refl, arith}
 use Rattle.memory.proofs.Writing.{line_kept, line_room}
 use Rattle.memory.proofs.pictures.put_line.Goals as goal
 use Rattle.memory.proofs.pictures.put_line.Goals.{else-n-count-via-then-n-count+else-picture_length-buffer, else-n-count-via-else-n-count}
-
-pub returns-then-picture_length-buffer : goal.returns-then-picture_length-buffer
-returns-then-picture_length-buffer c = record {
-  puts = λ _ _. (c.put_line_at.ensures.puts, c.put_line_at.ensures.proper);
-  stays = λ no. absurd (no (search rules, search rules));
-  picture = λ ls more is. c.put_line_at.ensures.picture ls more is;
-}
 
 pub returns-else-n-count : goal.returns-else-n-count
 returns-else-n-count c =

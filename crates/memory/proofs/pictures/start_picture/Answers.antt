@@ -12,6 +12,6 @@ returns c =
     let long : length (take (c.picture_length-length.result - 0) c.args.buffer.now) ≡ picture_length c.args.count = length-take-le (c.picture_length-length.result - 0) c.args.buffer.now (omega arith) ∙ search rules in (
       search rules,
       search rules,
-      blank_put c.args.count c.fill.new.self _ _ (filled.len ∙ long) (λ k h. filled.clones k 0 (omega (arith, filled.len)) refl) c.put_number.ensures (λ k. let fits = c.type_inv.buffer k in omega arith)
+      blank_put c.args.count c.fill.new.self _ _ (filled.len ∙ long) (λ k h. filled.clones k 0 (omega (arith, filled.len)) refl) c.put_number.ensures.puts (λ k. let fits = c.type_inv.buffer k in omega arith)
           ∙ ap (λ k. picture (replicate c.args.count blank) ++ drop k c.args.buffer.now) cut,
     )
