@@ -163,14 +163,11 @@ impl Front<'_> {
 pub fn start_picture(buffer: &mut [u8], count: u32) -> Result<usize, Refusal>
     ensures { MatchResult result (λ n. (n ≡ picture_length count) × Room count buffer.old × (buffer.new ≡ picture (replicate count blank) ++ drop n buffer.old)) (λ e. (e ≡ Refusal.NoRoomToSave) × (Room count buffer.old → ⊥) × (buffer.new ≡ buffer.old)) }
 {
-    if count == 0 || count > MOST_LINES {
-        return Err(Refusal::NoRoomToSave);
-    }
     let length = picture_length(count);
-    if buffer.len() < length {
+    if count == 0 || count > MOST_LINES || buffer.len() < length {
         return Err(Refusal::NoRoomToSave);
     }
-    buffer[0..length].fill(0);
+    buffer[..length].fill(0);
     put_number(buffer, 0, count);
     Ok(length)
 }
