@@ -192,10 +192,9 @@ pub fn write_picture(lines: &[Line], buffer: &mut [u8]) -> Result<usize, Refusal
     ensures cases { MatchResult result (λ n. (n ≡ picture_length (length lines.now)) × (buffer.new ≡ picture lines.now ++ drop n buffer.old)) (λ e. (e ≡ Refusal.NoRoomToSave) × (Room (length lines.now) buffer.old → ⊥) × (buffer.new ≡ buffer.old)) }
     ensures reads_back { OnOk result (Sound (picture lines.now) × (lines_at (length lines.now) (picture lines.now) ≡ lines.now)) }
 {
-    if lines.len() > MOST_LINES as usize {
+    let Ok(count) = u32::try_from(lines.len()) else {
         return Err(Refusal::NoRoomToSave);
-    }
-    let count = lines.len() as u32;
+    };
     let length = start_picture(buffer, count)?;
     for (n, line) in lines.iter().enumerate() {
         put_line(buffer, count, n as u32, *line);

@@ -1,4 +1,4 @@
-use Rattle.std.proofs.Common.{◌≡◌, [], ◌++◌, length, drop, sym, ap, ◌∙◌, append-nil, arith, below_more}
+use Rattle.std.proofs.Common.{◌≡◌, ◌<◌, [], ◌++◌, length, drop, replicate, sym, ap, ◌∙◌, append-nil, arith, below_more}
 use lib.ListN.{length-replicate}
 use Rattle.tagged.specs.Words.{blank}
 use Rattle.memory.specs.Pictures.{picture, picture_length, lines_at}
@@ -11,19 +11,20 @@ use Rattle.memory.proofs.pictures.write_picture.Goals.{In_ok-length}
 kept : (c : In_ok-length) → drop c.in_ok-length.length c.start_picture.new.buffer ≡ drop c.in_ok-length.length c.args.buffer.now
 kept c =
     let told = c.in_ok-length.ensures in
-    behind_picture _ _ _ _ told.2 (told.0 ∙ ap picture_length (sym (length-replicate (length c.args.lines.now) blank)))
+    behind_picture _ _ _ _ told.2 (told.0 ∙ ap picture_length (sym (length-replicate c.in-Ok.count blank)))
 
 pub loop-n-init : goal.loop-n-init
 loop-n-init c =
-    let told = c.in_ok-length.ensures in
-    (told.2 ∙ (λ i. picture (sym (begun_none c.args.lines.now) i) ++ sym (kept c) i), λ m h. absurd (omega arith))
+    let blanks = ap (λ n. replicate n blank) c.in-Ok.ensures.1 ∙ sym (begun_none c.args.lines.now) in
+    (c.in_ok-length.ensures.2 ∙ (λ i. picture (blanks i) ++ sym (kept c) i), λ m h. absurd (omega arith))
 
 pub loop-n-preserved : goal.loop-n-preserved
 loop-n-preserved c =
     let old = c.loop-n.invariant.0 in
-    let count = length_begun c.loop-n.n c.args.lines.now in (
+    let count = length_begun c.loop-n.n c.args.lines.now ∙ sym c.in-Ok.ensures.1 in
+    let within : c.loop-n.n < c.in-Ok.count = omega (arith, c.in-Ok.ensures.1) in (
       c.put_line.ensures.picture _ _ (count, old) ∙ ap (λ ls. picture ls ++ drop c.in_ok-length.length c.start_picture.new.buffer) (begun_more c.loop-n.n c.args.lines.now no_line c.loop-n-test.true),
-      below_more _ _ c.loop-n.invariant.1 (c.put_line.ensures.puts c.loop-n-test.true (line_room _ _ _ c.loop-n.n no_line _ [] count old)).1,
+      below_more _ _ c.loop-n.invariant.1 (c.put_line.ensures.puts within (line_room _ _ _ c.loop-n.n no_line _ [] count old)).1,
     )
 
 pub returns : goal.returns
@@ -32,9 +33,9 @@ returns c =
     let ls = c.args.lines.now in
     let whole = begun_all c.loop-n.n ls c.loop-n-test.false in
     record {
-      cases = (told.0, c.loop-n.invariant.0 ∙ (λ i. picture (whole i) ++ kept (goal.at.returns c).In_ok-length i));
+      cases = (told.0 ∙ ap picture_length c.in-Ok.ensures.1, c.loop-n.invariant.0 ∙ (λ i. picture (whole i) ++ kept (goal.at.returns c).In_ok-length i));
       reads_back = (
-        picture_sound ls told.1.some told.1.few,
+        picture_sound ls (omega (arith, told.1.some, c.in-Ok.ensures.1)) (omega (arith, told.1.few, c.in-Ok.ensures.1)),
         ap (lines_at (length ls)) (sym (append-nil (picture ls))) ∙ lines_back ls [] no_line (λ m h. c.loop-n.invariant.1 m (omega arith)),
       );
     }
