@@ -1,13 +1,31 @@
 -- Writing one line of a picture, and a picture of blank lines.
-use Rattle.std.proofs.Common.{◌≡◌, ℕ, zero, suc, ◌+◌, ◌-◌, ◌*◌, ◌/◌, ◌%◌, ◌<◌, ◌≤◌, List, [], ◌∷◌, ◌++◌, map, length, get_or, drop, set, replicate, sym, refl, ap, ◌∙◌, inl, inr, ⊎_elim, add_comm, mul-suc, arith}
+use Rattle.std.proofs.Common.{◌≡◌, ℕ, zero, suc, ◌+◌, ◌-◌, ◌*◌, ◌<◌, ◌≤◌, List, [], ◌∷◌, ◌++◌, map, length, get_or, drop, set, replicate, sym, refl, ap, ◌∙◌, inl, inr, ⊎_elim, add_comm, mul-suc, arith}
 use Rattle.std.specs.List.{flat_map}
+use Rattle.std.proofs.lemmas.Grind.{common_steps}
 use Rattle.std.proofs.lemmas.List.FromFn.{length-map-range_with_len, get_or-map-range_with_len}
 use Rattle.std.proofs.lemmas.List.{get_or-append_right, length-append, length-set, ext_get_or, get_or-set_same, get_or-set_other, set_past, drop_at, length-replicate, get_or-replicate, get_or_append_left, replicate-append-replicate}
 use Rattle.std.proofs.lemmas.Bool.{cases_lt, cases_eq, cases_order}
 use Rattle.tagged.specs.Words.{blank}
 use Rattle.tagged.specs.declared.words.Line.{Line}
 use Rattle.memory.specs.Pictures.{four_bytes, number_at, values_of, state_byte, picture, picture_length, values_from, state_place, line_at, lines_at, PutsNumber, PutsLine, Proper}
-use Rattle.memory.proofs.Places.{Bytes, line_from, four_here, joined_at, length_picture, header_at, value_at, state_at}
+use Rattle.memory.proofs.Places.{Bytes, line_from, four_here, length_picture, header_at, value_at, state_at, each_place}
+
+-- after line m of n was written
+module _ (n m : ℕ) (l : Line) (before after : List ℕ) (within : m < n) (puts : PutsLine n before m l after) where
+  -- value w of that line
+  written : (w : ℕ) → w < 4 → number_at after (values_from m + 4 * w) ≡ get_or (values_of l) w 0
+  written zero h = ap (number_at after) (omega arith) ∙ puts.first
+  written (suc zero) h = puts.second
+  written (suc (suc zero)) h = puts.third
+  written (suc (suc (suc zero))) h = puts.fourth
+  written (suc (suc (suc (suc w)))) h = absurd (omega arith)
+
+  -- byte i of another line's values, and another line's states
+  value_kept : (k i : ℕ) → k < n → (k ≡ m → ⊥) → i < 16 → get_or after (values_from k + i) 0 ≡ get_or before (values_from k + i) 0
+  value_kept k i h ne lt = puts.others (values_from k + i) (⊎_elim (λ e. absurd (ne e)) (⊎_elim (λ less. inl (omega arith)) (λ more. inr (omega arith))) (cases_order k m)) (λ e. omega arith)
+
+  state_kept : (k : ℕ) → k < n → (k ≡ m → ⊥) → get_or after (state_place n k) 0 ≡ get_or before (state_place n k) 0
+  state_kept k h ne = puts.others (state_place n k) (inr (omega arith)) (λ e. ne (omega arith))
 
 module _ (ls : List Line) (more : List ℕ) (m : ℕ) (l : Line) (after : List ℕ) (within : m < length ls) (puts : PutsLine (length ls) (picture ls ++ more) m l after) (bytes : Bytes after) where
   news : List Line
@@ -16,14 +34,6 @@ module _ (ls : List Line) (more : List ℕ) (m : ℕ) (l : Line) (after : List �
   long_news : length news ≡ length ls
   unfolding news
   long_news = length-set ls m l
-
-  -- value w of line m, as it was written
-  written : (w : ℕ) → w < 4 → number_at after (values_from m + 4 * w) ≡ get_or (values_of l) w 0
-  written zero h = ap (number_at after) (omega arith) ∙ puts.first
-  written (suc zero) h = puts.second
-  written (suc (suc zero)) h = puts.third
-  written (suc (suc (suc zero))) h = puts.fourth
-  written (suc (suc (suc (suc w)))) h = absurd (omega arith)
 
   line_same : get_or news m blank ≡ l
   unfolding news
@@ -34,50 +44,33 @@ module _ (ls : List Line) (more : List ℕ) (m : ℕ) (l : Line) (after : List �
   line_other k ne = get_or-set_other ls m k l blank ne
 
   header : (k : ℕ) → k < 4 → get_or after k 0 ≡ get_or (picture news ++ more) k 0
-  header k h =
-      puts.others k (inl (omega arith)) (λ e. omega arith)
-      ∙ header_at ls more k h
-      ∙ ap (λ n. get_or (four_bytes n) k 0) (sym long_news)
-      ∙ sym (header_at news more k h)
+  header k h = puts.others k (inl (omega arith)) (λ e. omega arith) ∙ header_at ls more k h ∙ ap (λ n. get_or (four_bytes n) k 0) (sym long_news) ∙ sym (header_at news more k h)
 
-  -- byte i of value w of line j
-  value : (j w i : ℕ) → j < length ls → w < 4 → i < 4 → get_or after (4 + 4 * (4 * j + w) + i) 0 ≡ get_or (picture news ++ more) (4 + 4 * (4 * j + w) + i) 0
-  value j w i hj hw hi = old ∙ sym new
+  value : (j w i : ℕ) → j < length ls → w < 4 → i < 4 → get_or after (values_from j + 4 * w + i) 0 ≡ get_or (picture news ++ more) (values_from j + 4 * w + i) 0
+  value j w i hj hw hi = ⊎_elim here elsewhere (cases_eq j m) ∙ sym (value_at news more j w i blank (omega (arith, long_news)) hw hi)
     where
-      all : length news ≡ length ls
-      all = long_news
-
-      new : get_or (picture news ++ more) (4 + 4 * (4 * j + w) + i) 0 ≡ get_or (four_bytes (get_or (values_of (get_or news j blank)) w 0)) i 0
-      new =
-          value_at news more (4 * j + w) i (omega (arith, all)) hi
-          ∙ ap (λ v. get_or (four_bytes v) i 0) (joined_at values_of 4 (λ _. refl) news j w blank (omega (arith, all)) hw)
-
-      here : j ≡ m → get_or after (4 + 4 * (4 * j + w) + i) 0 ≡ get_or (four_bytes (get_or (values_of (get_or news j blank)) w 0)) i 0
+      here : j ≡ m → get_or after (values_from j + 4 * w + i) 0 ≡ get_or (four_bytes (get_or (values_of (get_or news j blank)) w 0)) i 0
       here e =
-          let p : values_from m + 4 * w ≡ 4 + 4 * (4 * j + w) = omega arith in
-          let v : number_at after (4 + 4 * (4 * j + w)) ≡ get_or (values_of (get_or news j blank)) w 0 = ap (number_at after) (sym p) ∙ written w hw ∙ ap (λ x. get_or (values_of x) w 0) (sym line_same ∙ ap (λ k. get_or news k blank) (sym e)) in
-          sym (four_here after bytes (4 + 4 * (4 * j + w)) i hi) ∙ ap (λ x. get_or (four_bytes x) i 0) v
+          sym (four_here after bytes (values_from j + 4 * w) i hi)
+          ∙ ap (λ v. get_or (four_bytes v) i 0) (ap (λ k. number_at after (values_from k + 4 * w)) e ∙ written _ m l _ after within puts w hw ∙ ap (λ x. get_or (values_of x) w 0) (sym line_same ∙ ap (λ k. get_or news k blank) (sym e)))
 
-      elsewhere : (j ≡ m → ⊥) → get_or after (4 + 4 * (4 * j + w) + i) 0 ≡ get_or (four_bytes (get_or (values_of (get_or news j blank)) w 0)) i 0
+      elsewhere : (j ≡ m → ⊥) → get_or after (values_from j + 4 * w + i) 0 ≡ get_or (four_bytes (get_or (values_of (get_or news j blank)) w 0)) i 0
       elsewhere ne =
-          puts.others (4 + 4 * (4 * j + w) + i) (⊎_elim (λ e. absurd (ne e)) (⊎_elim (λ lt. inl (omega arith)) (λ gt. inr (omega arith))) (cases_order j m)) (λ e. omega arith)
-          ∙ value_at ls more (4 * j + w) i (omega arith) hi
-          ∙ ap (λ v. get_or (four_bytes v) i 0) (joined_at values_of 4 (λ _. refl) ls j w blank hj hw ∙ ap (λ x. get_or (values_of x) w 0) (sym (line_other j ne)))
-
-      old : get_or after (4 + 4 * (4 * j + w) + i) 0 ≡ get_or (four_bytes (get_or (values_of (get_or news j blank)) w 0)) i 0
-      old = ⊎_elim here elsewhere (cases_eq j m)
+          let e : values_from j + 4 * w + i ≡ values_from j + (4 * w + i) = omega arith in
+          ap (λ k. get_or after k 0) e
+          ∙ value_kept _ m l _ after within puts j (4 * w + i) hj ne (omega arith)
+          ∙ ap (λ k. get_or (picture ls ++ more) k 0) (sym e)
+          ∙ value_at ls more j w i blank hj hw hi
+          ∙ ap (λ x. get_or (four_bytes (get_or (values_of x) w 0)) i 0) (sym (line_other j ne))
 
   state : (j : ℕ) → j < length ls → get_or after (state_place (length ls) j) 0 ≡ get_or (picture news ++ more) (state_place (length ls) j) 0
-  state j h = ⊎_elim here elsewhere (cases_eq j m) ∙ sym new
+  state j h = ⊎_elim here elsewhere (cases_eq j m) ∙ sym (ap (λ n. get_or (picture news ++ more) (state_place n j) 0) (sym long_news) ∙ state_at news more j blank (omega (arith, long_news)))
     where
-      new : get_or (picture news ++ more) (state_place (length ls) j) 0 ≡ state_byte (get_or news j blank)
-      new = ap (λ n. get_or (picture news ++ more) (state_place n j) 0) (sym long_news) ∙ state_at news more j blank (omega (arith, long_news))
-
       here : j ≡ m → get_or after (state_place (length ls) j) 0 ≡ state_byte (get_or news j blank)
       here e = ap (λ k. get_or after (state_place (length ls) k) 0) e ∙ puts.states ∙ ap state_byte (sym line_same ∙ ap (λ k. get_or news k blank) (sym e))
 
       elsewhere : (j ≡ m → ⊥) → get_or after (state_place (length ls) j) 0 ≡ state_byte (get_or news j blank)
-      elsewhere ne = puts.others (state_place (length ls) j) (inr (omega arith)) (λ e. ne (omega arith)) ∙ state_at ls more j blank h ∙ ap state_byte (sym (line_other j ne))
+      elsewhere ne = state_kept _ m l _ after within puts j h ne ∙ state_at ls more j blank h ∙ ap state_byte (sym (line_other j ne))
 
   behind : (k : ℕ) → picture_length (length ls) ≤ k → get_or after k 0 ≡ get_or (picture news ++ more) k 0
   behind k h =
@@ -85,27 +78,11 @@ module _ (ls : List Line) (more : List ℕ) (m : ℕ) (l : Line) (after : List �
       ∙ get_or-append_right (picture ls) more (picture_length (length ls)) k 0 (length_picture ls more) h
       ∙ sym (get_or-append_right (picture news) more (picture_length (length ls)) k 0 (length_picture news more ∙ ap picture_length long_news) h)
 
-  each : (k : ℕ) → get_or after k 0 ≡ get_or (picture news ++ more) k 0
-  each k = ⊎_elim (header k) (λ past. ⊎_elim (inside past) (λ far. ⊎_elim (states far) (behind k) (cases_lt k (picture_length (length ls)))) (cases_lt k (4 + 16 * length ls))) (cases_lt k 4)
-    where
-      inside : 4 ≤ k → k < 4 + 16 * length ls → get_or after k 0 ≡ get_or (picture news ++ more) k 0
-      inside past lt =
-          let e : 4 + 4 * (4 * ((k - 4) / 16) + (k - 4) / 4 % 4) + (k - 4) % 4 ≡ k = omega arith in
-          ap (λ i. get_or after i 0) (sym e)
-          ∙ value ((k - 4) / 16) ((k - 4) / 4 % 4) ((k - 4) % 4) (omega arith) (omega arith) (omega arith)
-          ∙ ap (λ i. get_or (picture news ++ more) i 0) e
-
-      states : 4 + 16 * length ls ≤ k → k < picture_length (length ls) → get_or after k 0 ≡ get_or (picture news ++ more) k 0
-      states far lt =
-          let e : state_place (length ls) (k - (4 + 16 * length ls)) ≡ k = omega arith in
-          ap (λ i. get_or after i 0) (sym e) ∙ state (k - (4 + 16 * length ls)) (omega arith) ∙ ap (λ i. get_or (picture news ++ more) i 0) e
-
   line_set : after ≡ picture (set ls m l) ++ more
   unfolding news
   line_set =
-      ext_get_or 0 after (picture (set ls m l) ++ more)
-      (puts.long ∙ length-append (picture ls) more ∙ ap (λ n. n + length more) (length_picture ls more ∙ ap picture_length (sym long_news) ∙ sym (length_picture news more)) ∙ sym (length-append (picture (set ls m l)) more))
-      (λ k h. each k)
+      ext_get_or 0 after (picture (set ls m l) ++ more) (grind (arith, common_steps, puts.long, length_picture ls more, length_picture news more))
+      (λ k h. ⊎_elim (each_place (length ls) (λ k. get_or after k 0 ≡ get_or (picture news ++ more) k 0) header value state k) (behind k) (cases_lt k (picture_length (length ls))))
 
 -- line m of n lines is written, and they were the picture of ls
 module _ (ls : List Line) (more : List ℕ) (n m : ℕ) (l : Line) (before after : List ℕ) (count : length ls ≡ n) (was : before ≡ picture ls ++ more) where
@@ -212,33 +189,23 @@ no_line = record { values = []; states = [] }
 pub behind_picture : (ls : List Line) (more bs : List ℕ) (n : ℕ) → bs ≡ picture ls ++ more → n ≡ picture_length (length ls) → drop n bs ≡ more
 behind_picture ls more bs n is long = ap (drop n) is ∙ drop_at (picture ls) more n (length_picture ls more ∙ sym long)
 
--- what is read after a line was written
+-- the lines that are read after one of them was written
 module _ (n m : ℕ) (before after : List ℕ) (l : Line) (within : m < n) (puts : PutsLine n before m l after) where
-  apart : (k j : ℕ) → k < n → (k ≡ m → ⊥) → j < 16 → get_or after (values_from k + j) 0 ≡ get_or before (values_from k + j) 0
-  apart k j h ne lt = puts.others (values_from k + j) (⊎_elim (λ e. absurd (ne e)) (⊎_elim (λ less. inl (omega arith)) (λ more. inr (omega arith))) (cases_order k m)) (λ e. omega arith)
-
-  number_apart : (k j : ℕ) → k < n → (k ≡ m → ⊥) → j ≤ 12 → number_at after (values_from k + j) ≡ number_at before (values_from k + j)
-  number_apart k j h ne lt =
-      let e : (i : ℕ) → i < 4 → get_or after (values_from k + j + i) 0 ≡ get_or before (values_from k + j + i) 0 =
-      λ i small. let p : values_from k + j + i ≡ values_from k + (j + i) = omega arith in ap (λ q. get_or after q 0) p ∙ apart k (j + i) h ne (omega arith) ∙ ap (λ q. get_or before q 0) (sym p)
-      in
-      rw (apart k j h ne (omega arith), e 1 (omega arith), e 2 (omega arith), e 3 (omega arith)) refl
-
-  line_apart : (k : ℕ) → k < n → (k ≡ m → ⊥) → line_at n after k ≡ line_at n before k
-  line_apart k h ne =
-      let zeroth : number_at after (values_from k) ≡ number_at before (values_from k) = let p : values_from k ≡ values_from k + 0 = omega arith in ap (number_at after) p ∙ number_apart k 0 h ne (omega arith) ∙ ap (number_at before) (sym p) in
-      let state : get_or after (state_place n k) 0 ≡ get_or before (state_place n k) 0 = puts.others (state_place n k) (inr (omega arith)) (λ e. ne (omega arith)) in
-      rw (zeroth, number_apart k 4 h ne (omega arith), number_apart k 8 h ne (omega arith), number_apart k 12 h ne (omega arith), state) refl
+  line_kept_at : (k : ℕ) → k < n → (k ≡ m → ⊥) → line_at n after k ≡ line_at n before k
+  line_kept_at k h ne =
+      let number : (p : ℕ) → p ≤ 12 → number_at after (values_from k + p) ≡ number_at before (values_from k + p) = λ p lt. grind (arith, value_kept n m l before after within puts k p h ne, value_kept n m l before after within puts k (p + 1) h ne, value_kept n m l before after within puts k (p + 2) h ne, value_kept n m l before after within puts k (p + 3) h ne) in
+      let zeroth : number_at after (values_from k) ≡ number_at before (values_from k) = let p : values_from k ≡ values_from k + 0 = omega arith in ap (number_at after) p ∙ number 0 (omega arith) ∙ ap (number_at before) (sym p) in
+      rw (zeroth, number 4 (omega arith), number 8 (omega arith), number 12 (omega arith), state_kept n m l before after within puts k h ne) refl
 
   pub lines_put : Proper l → lines_at n after ≡ set (lines_at n before) m l
   lines_put proper =
-      ext_get_or blank (lines_at n after) (set (lines_at n before) m l)
-      (length-map-range_with_len (line_at n after) 0 n ∙ sym (length-set (lines_at n before) m l ∙ length-map-range_with_len (line_at n before) 0 n))
+      let long_after = length-map-range_with_len (line_at n after) 0 n in
+      let long_before = length-map-range_with_len (line_at n before) 0 n in
+      ext_get_or blank (lines_at n after) (set (lines_at n before) m l) (long_after ∙ sym (length-set (lines_at n before) m l ∙ long_before))
       (λ k h.
-      let lt : k < n = omega (arith, length-map-range_with_len (line_at n after) 0 n) in
-      let long : m < length (lines_at n before) = omega (arith, length-map-range_with_len (line_at n before) 0 n) in
+      let lt : k < n = omega (arith, long_after) in
       get_or-map-range_with_len (line_at n after) 0 n k k blank lt (omega arith)
       ∙ ⊎_elim
-      (λ e. ap (line_at n after) e ∙ line_from n after m l proper puts.first puts.second puts.third puts.fourth puts.states ∙ sym (get_or-set_same (lines_at n before) m l blank long) ∙ ap (λ i. get_or (set (lines_at n before) m l) i blank) (sym e))
-      (λ ne. line_apart k lt ne ∙ sym (get_or-set_other (lines_at n before) m k l blank ne ∙ get_or-map-range_with_len (line_at n before) 0 n k k blank lt (omega arith)))
+      (λ e. ap (line_at n after) e ∙ line_from n after m l proper (written n m l before after within puts) puts.states ∙ sym (get_or-set_same (lines_at n before) m l blank (omega (arith, long_before))) ∙ ap (λ i. get_or (set (lines_at n before) m l) i blank) (sym e))
+      (λ ne. line_kept_at k lt ne ∙ sym (get_or-set_other (lines_at n before) m k l blank ne ∙ get_or-map-range_with_len (line_at n before) 0 n k k blank lt (omega arith)))
       (cases_eq k m))
