@@ -1,13 +1,13 @@
 -- Writing one line of a picture, and a picture of blank lines.
-use Rattle.std.proofs.Common.{◌≡◌, ℕ, zero, suc, ◌+◌, ◌-◌, ◌*◌, ◌<◌, ◌≤◌, List, [], ◌∷◌, ◌++◌, map, length, get_or, drop, set, replicate, sym, refl, ap, ◌∙◌, inl, inr, ⊎_elim, add_comm, mul-suc, arith}
+use Rattle.std.proofs.Common.{◌≡◌, ℕ, zero, suc, ◌+◌, ◌-◌, ◌*◌, ◌<◌, ◌≤◌, List, [], ◌++◌, map, length, get_or, take, drop, set, replicate, sym, refl, ap, ◌∙◌, inl, inr, ⊎_elim, add_comm, mul-suc, arith}
 use Rattle.std.specs.List.{flat_map}
 use Rattle.std.proofs.lemmas.Grind.{common_steps}
 use Rattle.std.proofs.lemmas.List.FromFn.{length-map-range_with_len, get_or-map-range_with_len}
-use Rattle.std.proofs.lemmas.List.{get_or-append_right, length-append, length-set, ext_get_or, get_or-set_same, get_or-set_other, set_past, drop_at, length-replicate, get_or-replicate, get_or_append_left, replicate-append-replicate}
+use Rattle.std.proofs.lemmas.List.{get_or-append_right, length-append, length-set, ext_get_or, get_or-set_same, get_or-set_other, set_past, drop_at, length-replicate, replicate-append-replicate}
 use Rattle.std.proofs.lemmas.Bool.{cases_lt, cases_eq, cases_order}
 use Rattle.tagged.specs.Words.{blank}
 use Rattle.tagged.specs.declared.words.Line.{Line}
-use Rattle.memory.specs.Pictures.{four_bytes, number_at, values_of, state_byte, picture, picture_length, values_from, state_place, line_at, lines_at, PutsNumber, PutsLine, Proper}
+use Rattle.memory.specs.Pictures.{four_bytes, number_at, values_of, state_byte, picture, picture_length, values_from, state_place, line_at, lines_at, PutsLine, Proper}
 use Rattle.memory.proofs.Places.{Bytes, line_from, four_here, length_picture, header_at, value_at, state_at, each_place}
 
 -- after line m of n was written
@@ -106,80 +106,37 @@ blank_values (suc n) =
 
 blank_states : (n : ℕ) → map state_byte (replicate n blank) ≡ replicate n 0
 blank_states zero = refl
-blank_states (suc n) = ap (λ l. 0 ∷ l) (blank_states n)
+blank_states (suc n) = grind (arith, common_steps, blank_states n)
 
 pub blank_picture : (n : ℕ) → picture (replicate n blank) ≡ four_bytes n ++ replicate (17 * n) 0
 unfolding picture
 blank_picture n =
     let e : 16 * n + n ≡ 17 * n = omega arith in
-    (λ i. four_bytes (length-replicate n blank i) ++ (blank_values n i ++ blank_states n i)) ∙ ap (λ l. four_bytes n ++ l) (replicate-append-replicate (16 * n) n 0 ∙ ap (λ k. replicate k 0) e)
+    grind (arith, common_steps, blank_values n, blank_states n, length-replicate {A = Line}, replicate-append-replicate {A = ℕ} (16 * n) n 0, e)
 
--- zeros with a number in front are the picture of blank lines
-module _ (n : ℕ) (zeros more after : List ℕ) (long : length zeros ≡ picture_length n) (none : (k : ℕ) → k < length zeros → get_or zeros k 0 ≡ 0) (puts : PutsNumber (zeros ++ more) 0 n after) (bytes : Bytes after) where
-  blanks : List ℕ
-  blanks = four_bytes n ++ replicate (17 * n) 0
+-- a header of h bytes, and zeros after it up to byte p
+module _ (h p : ℕ) (head zeros old : List ℕ) (wide : length head ≡ h) (order : h ≤ p) (room : p ≤ length old) where
+  front_put : take h (head ++ drop h old) ++ (zeros ++ drop (p - h) (drop h (head ++ drop h old))) ≡ (head ++ zeros) ++ drop p old
+  front_put = grind (arith, common_steps)
 
-  long_blanks : length blanks ≡ picture_length n
-  unfolding blanks
-  long_blanks = length-append (four_bytes n) (replicate (17 * n) 0) ∙ ap (λ k. 4 + k) (length-replicate (17 * n) 0)
+  zeros_put : length zeros ≡ length (take (p - h) (drop h (head ++ drop h old))) → ((k : ℕ) → k < length zeros → get_or zeros k 0 ≡ 0) → zeros ≡ replicate (p - h) 0
+  zeros_put long none = ext_get_or 0 zeros (replicate (p - h) 0) (grind (arith, common_steps)) (λ k lt. grind (arith, common_steps, none k))
 
-  blank_each : (k : ℕ) → get_or after k 0 ≡ get_or (blanks ++ more) k 0
-  unfolding blanks
-  blank_each k = ⊎_elim front (λ past. ⊎_elim (middle past) behind (cases_lt k (picture_length n))) (cases_lt k 4)
-    where
-      front : k < 4 → get_or after k 0 ≡ get_or (blanks ++ more) k 0
-      front h =
-          ap (λ i. get_or after i 0) (omega arith)
-          ∙ sym (four_here after bytes 0 k h)
-          ∙ ap (λ v. get_or (four_bytes v) k 0) puts.here
-          ∙ sym (get_or_append_left (four_bytes n) (replicate (17 * n) 0) 0 k h)
-          ∙ sym (get_or_append_left blanks more 0 k (omega (arith, long_blanks)))
-
-      middle : 4 ≤ k → k < picture_length n → get_or after k 0 ≡ get_or (blanks ++ more) k 0
-      middle past h =
-          puts.above k (omega arith)
-          ∙ get_or_append_left zeros more 0 k (omega (arith, long))
-          ∙ none k (omega (arith, long))
-          ∙ sym (get_or-replicate (17 * n) (k - 4) 0 0 (omega arith))
-          ∙ sym (get_or-append_right (four_bytes n) (replicate (17 * n) 0) 4 k 0 refl past)
-          ∙ sym (get_or_append_left blanks more 0 k (omega (arith, long_blanks)))
-
-      behind : picture_length n ≤ k → get_or after k 0 ≡ get_or (blanks ++ more) k 0
-      behind h =
-          puts.above k (omega arith)
-          ∙ get_or-append_right zeros more (picture_length n) k 0 long h
-          ∙ sym (get_or-append_right blanks more (picture_length n) k 0 long_blanks h)
-
-  pub blank_put : after ≡ picture (replicate n blank) ++ more
-  unfolding blanks
-  blank_put =
-      ext_get_or 0 after (blanks ++ more) (puts.long ∙ length-append zeros more ∙ ap (λ k. k + length more) (long ∙ sym long_blanks) ∙ sym (length-append blanks more)) (λ k h. blank_each k)
-      ∙ ap (λ l. l ++ more) (sym (blank_picture n))
+pub blank_put : (n p : ℕ) (head zeros old : List ℕ) → p ≡ picture_length n → p ≤ length old → head ≡ four_bytes n → length zeros ≡ length (take (p - 4) (drop 4 (head ++ drop 4 old))) → ((k : ℕ) → k < length zeros → get_or zeros k 0 ≡ 0) → take 4 (head ++ drop 4 old) ++ (zeros ++ drop (p - 4) (drop 4 (head ++ drop 4 old))) ≡ picture (replicate n blank) ++ drop p old
+blank_put n p head zeros old is room first long none =
+    let e : p - 4 ≡ 17 * n = omega arith in
+    let all = zeros_put 4 p head zeros old (ap length first) (omega arith) room long none ∙ ap (λ k. replicate k 0) e in
+    front_put 4 p head zeros old (ap length first) (omega arith) room ∙ ap (λ l. l ++ drop p old) ((λ i. first i ++ all i) ∙ sym (blank_picture n))
 
 -- the first n lines as they are, and blank ones in the place of the others
 abbrev pub begun : ℕ → List Line → List Line
-begun n [] = []
-begun zero (l ∷ ls) = blank ∷ begun zero ls
-begun (suc n) (l ∷ ls) = l ∷ begun n ls
+begun n ls = take n ls ++ replicate (length ls - n) blank
 
-pub length_begun : (n : ℕ) (ls : List Line) → length (begun n ls) ≡ length ls
-length_begun n [] = refl
-length_begun zero (l ∷ ls) = ap suc (length_begun zero ls)
-length_begun (suc n) (l ∷ ls) = ap suc (length_begun n ls)
-
-pub begun_none : (ls : List Line) → begun 0 ls ≡ replicate (length ls) blank
-begun_none [] = refl
-begun_none (l ∷ ls) = ap (λ x. blank ∷ x) (begun_none ls)
+pub length_begun : (n : ℕ) (ls : List Line) → n ≤ length ls → length (begun n ls) ≡ length ls
+length_begun n ls h = grind (arith, common_steps)
 
 pub begun_more : (n : ℕ) (ls : List Line) (d : Line) → n < length ls → set (begun n ls) n (get_or ls n d) ≡ begun (n + 1) ls
-begun_more n [] d h = absurd (omega arith)
-begun_more zero (l ∷ ls) d h = refl
-begun_more (suc n) (l ∷ ls) d h = let e : suc (n + 1) ≡ suc n + 1 = omega arith in ap (λ x. l ∷ x) (begun_more n ls d (omega arith)) ∙ ap (λ k. begun k (l ∷ ls)) e
-
-pub begun_all : (n : ℕ) (ls : List Line) → length ls ≤ n → begun n ls ≡ ls
-begun_all n [] h = refl
-begun_all zero (l ∷ ls) h = absurd (omega arith)
-begun_all (suc n) (l ∷ ls) h = ap (λ x. l ∷ x) (begun_all n ls (omega arith))
+begun_more n ls d h = ext_get_or d _ _ (grind (arith, common_steps)) (λ k lt. grind (arith, common_steps))
 
 -- what stands past the end of a list of lines
 abbrev pub no_line : Line
