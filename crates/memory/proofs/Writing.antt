@@ -86,16 +86,18 @@ module _ (ls : List Line) (more : List ℕ) (m : ℕ) (l : Line) (after : List �
 
 -- line m of n lines is written, and they were the picture of ls
 module _ (ls : List Line) (more : List ℕ) (n m : ℕ) (l : Line) (before after : List ℕ) (count : length ls ≡ n) (was : before ≡ picture ls ++ more) where
+  pub line_room : picture_length n ≤ length before
+  line_room = omega (arith, ap length was, length-append (picture ls) more, length_picture ls more)
+
   pub line_put : m < n → PutsLine n before m l after → Bytes after → after ≡ picture (set ls m l) ++ more
   line_put h puts bytes = line_set ls more m l after (omega arith) (rw (count) (rw (was) at puts)) bytes
 
-  -- there is no line m
-  pub line_kept : n ≤ m → before ≡ picture (set ls m l) ++ more
-  line_kept h = was ∙ ap (λ x. picture x ++ more) (sym (set_past ls m l (omega arith)))
-
-  -- a picture is as long as its lines ask
-  pub line_room : picture_length n ≤ length before
-  line_room = omega (arith, ap length was, length-append (picture ls) more, length_picture ls more)
+  -- there is no line m, since a picture is as long as its lines ask
+  pub line_missing : ((m < n) × (picture_length n ≤ length before) → ⊥) → before ≡ picture (set ls m l) ++ more
+  line_missing none =
+      let room : picture_length n ≤ length before = line_room in
+      let past : n ≤ m = ⊎_elim (λ lt. absurd (none (lt, room))) (λ le. le) (cases_lt m n) in
+      was ∙ ap (λ x. picture x ++ more) (sym (set_past ls m l (omega arith)))
 
 -- blank lines are zeros
 blank_values : (n : ℕ) → flat_map four_bytes (flat_map values_of (replicate n blank)) ≡ replicate (16 * n) 0
