@@ -12,6 +12,9 @@ use Rattle.memory.proofs.Numbers.{number_of_bytes, bytes_of_number}
 use Rattle.memory.proofs.States.{states_back, byte_back}
 use Rattle.memory.specs.Pictures.{four_bytes, number_at, values_of, state_byte, picture, picture_length, values_from, state_place, line_at, lines_at, line_count, Proper, Sound}
 
+-- how many lines are read from bytes, and the usual steps on lists
+pub ruleset lines_read = (common_steps, length-map-range_with_len)
+
 -- the pieces of a joined list, where each is of one length
 module _ {X : Type 0} (f : X → List ℕ) (s : ℕ) (each : (x : X) → length (f x) ≡ s) where
   length_joined : (xs : List X) → length (flat_map f xs) ≡ s * length xs

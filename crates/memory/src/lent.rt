@@ -27,6 +27,7 @@ impl<'a> Picture<'a> {
     }
 }
 
+#[tactic(auto, using(crate::proofs::Places::lines_read))]
 impl Memory for Picture<'_> {
     ghost use Rattle.std.proofs.Common.{subst, sym, lit≤};
     ghost use Rattle.std.proofs.Math.Nat.{le_trans};

@@ -1,11 +1,5 @@
-use Rattle.std.proofs.Common.{arith}
-use Rattle.std.proofs.lemmas.Grind.{common_steps}
-use Rattle.std.proofs.lemmas.List.FromFn.{length-map-range_with_len}
 use Rattle.memory.proofs.Writing.{lines_put}
 use Rattle.memory.proofs.lent.PictureMemory.write.Goals as goal
 
 pub returns-then-n-self-clause-lines : goal.returns-then-n-self-clause-lines
 returns-then-n-self-clause-lines c = rw c.replace.ensures.count (lines_put _ _ _ _ _ c.if-n-self.true c.replace.ensures.puts c.replace.ensures.proper)
-
-pub returns-else-n-self-clause-lines : goal.returns-else-n-self-clause-lines
-returns-else-n-self-clause-lines c = grind (arith, common_steps, length-map-range_with_len)
