@@ -27,12 +27,12 @@ impl Chip {
 }
 
 impl Memory for Chip {
-    ghost use Rattle.std.specs.Prelude.{ℕ, ◌≤◌};
-    ghost use Rattle.std.proofs.Common.{subst, sym, lit≤};
+    ghost use Rattle.std.proofs.Common.{lit≤};
+    ghost use Rattle.std.proofs.Math.Nat.{le_of_eq, le_trans};
 
     ghost lines = { λ m. m.lines };
 
-    ghost few = { λ m. subst (λ (k : ℕ). k ≤ 65536) (sym m.sized) (lit≤ tt) };
+    ghost few = { λ m. le_trans (le_of_eq m.sized) (lit≤ tt) };
 
     fn line_count(&self) -> u32 {
         self.lines.len() as u32
