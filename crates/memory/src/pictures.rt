@@ -160,6 +160,7 @@ impl Front<'_> {
 }
 
 // Makes the buffer's front a picture of `count` blank lines, and gives its length. The bytes after it stay.
+// No `Front` is given: a `Result` with a lent slice in it cannot say yet that an `Err` leaves the slice as it was.
 pub fn start_picture(buffer: &mut [u8], count: u32) -> Result<usize, Refusal>
     ensures { MatchResult result (λ n. (n ≡ picture_length count) × Room count buffer.old × (buffer.new ≡ picture (replicate count blank) ++ drop n buffer.old)) (λ e. (e ≡ Refusal.NoRoomToSave) × (Room count buffer.old → ⊥) × (buffer.new ≡ buffer.old)) }
 {
