@@ -3,11 +3,11 @@ use Rattle.std.proofs.Common.{◌≡◌, ℕ, zero, suc, ◌+◌, ◌-◌, ◌*�
 use Rattle.std.specs.List.{flat_map}
 use Rattle.std.proofs.lemmas.Grind.{common_steps}
 use Rattle.std.proofs.lemmas.List.FromFn.{length-map-range_with_len, get_or-map-range_with_len}
-use Rattle.std.proofs.lemmas.List.{get_or-append_right, length-append, length-set, ext_get_or, get_or-set_same, get_or-set_other, set_past, drop_at, length-replicate, replicate-append-replicate}
+use Rattle.std.proofs.lemmas.List.{get_or_append_left, get_or-append_right, get_or-replicate, length-append, length-set, ext_get_or, get_or-set_same, get_or-set_other, set_past, drop_at, length-replicate, replicate-append-replicate}
 use Rattle.std.proofs.lemmas.Bool.{cases_lt, cases_eq, cases_order}
 use Rattle.tagged.specs.Words.{blank}
 use Rattle.tagged.specs.declared.words.Line.{Line}
-use Rattle.memory.specs.Pictures.{four_bytes, number_at, values_of, state_byte, picture, picture_length, values_from, state_place, line_at, lines_at, PutsLine, Proper}
+use Rattle.memory.specs.Pictures.{four_bytes, number_at, values_of, state_byte, picture, picture_length, values_from, state_place, line_at, lines_at, PutsLine, PutsNumber, Proper}
 use Rattle.memory.proofs.Places.{Bytes, line_from, four_here, length_picture, header_at, value_at, state_at, each_place}
 
 -- after line m of n was written
@@ -116,19 +116,47 @@ blank_picture n =
     let e : 16 * n + n ≡ 17 * n = omega arith in
     grind (arith, common_steps, blank_values n, blank_states n, length-replicate {A = Line}, replicate-append-replicate {A = ℕ} (16 * n) n 0, e)
 
--- a header of h bytes, and zeros after it up to byte p
-module _ (h p : ℕ) (head zeros old : List ℕ) (wide : length head ≡ h) (order : h ≤ p) (room : p ≤ length old) where
-  front_put : take h (head ++ drop h old) ++ (zeros ++ drop (p - h) (drop h (head ++ drop h old))) ≡ (head ++ zeros) ++ drop p old
-  front_put = grind (arith, common_steps)
+-- zeros with a number in front are the picture of blank lines
+module _ (n : ℕ) (zeros more after : List ℕ) (long : length zeros ≡ picture_length n) (none : (k : ℕ) → k < length zeros → get_or zeros k 0 ≡ 0) (puts : PutsNumber (zeros ++ more) 0 n after) (bytes : Bytes after) where
+  blanks : List ℕ
+  blanks = four_bytes n ++ replicate (17 * n) 0
 
-  zeros_put : length zeros ≡ length (take (p - h) (drop h (head ++ drop h old))) → ((k : ℕ) → k < length zeros → get_or zeros k 0 ≡ 0) → zeros ≡ replicate (p - h) 0
-  zeros_put long none = ext_get_or 0 zeros (replicate (p - h) 0) (grind (arith, common_steps)) (λ k lt. grind (arith, common_steps, none k))
+  long_blanks : length blanks ≡ picture_length n
+  unfolding blanks
+  long_blanks = grind (arith, common_steps)
 
-pub blank_put : (n p : ℕ) (head zeros old : List ℕ) → p ≡ picture_length n → p ≤ length old → head ≡ four_bytes n → length zeros ≡ length (take (p - 4) (drop 4 (head ++ drop 4 old))) → ((k : ℕ) → k < length zeros → get_or zeros k 0 ≡ 0) → take 4 (head ++ drop 4 old) ++ (zeros ++ drop (p - 4) (drop 4 (head ++ drop 4 old))) ≡ picture (replicate n blank) ++ drop p old
-blank_put n p head zeros old is room first long none =
-    let e : p - 4 ≡ 17 * n = omega arith in
-    let all = zeros_put 4 p head zeros old (ap length first) (omega arith) room long none ∙ ap (λ k. replicate k 0) e in
-    front_put 4 p head zeros old (ap length first) (omega arith) room ∙ ap (λ l. l ++ drop p old) ((λ i. first i ++ all i) ∙ sym (blank_picture n))
+  blank_each : (k : ℕ) → get_or after k 0 ≡ get_or (blanks ++ more) k 0
+  unfolding blanks
+  blank_each k = ⊎_elim front (λ past. ⊎_elim (middle past) behind (cases_lt k (picture_length n))) (cases_lt k 4)
+    where
+      front : k < 4 → get_or after k 0 ≡ get_or (blanks ++ more) k 0
+      front h =
+          ap (λ i. get_or after i 0) (omega arith)
+          ∙ sym (four_here after bytes 0 k h)
+          ∙ ap (λ v. get_or (four_bytes v) k 0) puts.here
+          ∙ sym (get_or_append_left (four_bytes n) (replicate (17 * n) 0) 0 k h)
+          ∙ sym (get_or_append_left blanks more 0 k (omega (arith, long_blanks)))
+
+      middle : 4 ≤ k → k < picture_length n → get_or after k 0 ≡ get_or (blanks ++ more) k 0
+      middle past h =
+          puts.above k (omega arith)
+          ∙ get_or_append_left zeros more 0 k (omega (arith, long))
+          ∙ none k (omega (arith, long))
+          ∙ sym (get_or-replicate (17 * n) (k - 4) 0 0 (omega arith))
+          ∙ sym (get_or-append_right (four_bytes n) (replicate (17 * n) 0) 4 k 0 refl past)
+          ∙ sym (get_or_append_left blanks more 0 k (omega (arith, long_blanks)))
+
+      behind : picture_length n ≤ k → get_or after k 0 ≡ get_or (blanks ++ more) k 0
+      behind h =
+          puts.above k (omega arith)
+          ∙ get_or-append_right zeros more (picture_length n) k 0 long h
+          ∙ sym (get_or-append_right blanks more (picture_length n) k 0 long_blanks h)
+
+  pub blank_put : after ≡ picture (replicate n blank) ++ more
+  unfolding blanks
+  blank_put =
+      ext_get_or 0 after (blanks ++ more) (puts.long ∙ length-append zeros more ∙ ap (λ k. k + length more) (long ∙ sym long_blanks) ∙ sym (length-append blanks more)) (λ k h. blank_each k)
+      ∙ ap (λ l. l ++ more) (sym (blank_picture n))
 
 -- the first n lines as they are, and blank ones in the place of the others
 abbrev pub begun : ℕ → List Line → List Line
@@ -168,3 +196,19 @@ module _ (n m : ℕ) (before after : List ℕ) (l : Line) (within : m < n) (puts
       (λ e. ap (line_at n after) e ∙ line_from n after m l proper (written n m l before after within puts) puts.states ∙ sym (get_or-set_same (lines_at n before) m l blank (omega (arith, long_before))) ∙ ap (λ i. get_or (set (lines_at n before) m l) i blank) (sym e))
       (λ ne. line_kept_at k lt ne ∙ sym (get_or-set_other (lines_at n before) m k l blank ne ∙ get_or-map-range_with_len (line_at n before) 0 n k k blank lt (omega arith)))
       (cases_eq k m))
+
+-- a write of line m of n, where there is such a line, and else nothing: of the lines, and of a picture of them
+module _ (n m : ℕ) (l : Line) (before after : List ℕ) where
+  pub lines_written : (m < n → PutsLine n before m l after × Proper l) → ((m < n → ⊥) → after ≡ before) → lines_at n after ≡ set (lines_at n before) m l
+  lines_written puts stays =
+      ⊎_elim (λ h. let put = puts h in lines_put n m before after l h put.0 put.1)
+      (λ past.
+      let e : after ≡ before = stays (λ h. omega (arith, h, past)) in
+      ap (lines_at n) e ∙ sym (set_past (lines_at n before) m l (omega (arith, past, length-map-range_with_len (line_at n before) 0 n))))
+      (cases_lt m n)
+
+  pub picture_written : ((ls : List Line) (more : List ℕ) → (length ls ≡ n) × (before ≡ picture ls ++ more) → m < n → after ≡ picture (set ls m l) ++ more) → ((m < n → ⊥) → after ≡ before) → (ls : List Line) (more : List ℕ) → (length ls ≡ n) × (before ≡ picture ls ++ more) → after ≡ picture (set ls m l) ++ more
+  picture_written put stays ls more is =
+      ⊎_elim (put ls more is)
+      (λ past. stays (λ h. omega (arith, h, past)) ∙ is.1 ∙ ap (λ x. picture x ++ more) (sym (set_past ls m l (omega (arith, past, is.0)))))
+      (cases_lt m n)

@@ -168,8 +168,8 @@ pub fn start_picture(buffer: &mut [u8], count: u32) -> Result<usize, Refusal>
     if count == 0 || count > MOST_LINES || buffer.len() < length {
         return Err(Refusal::NoRoomToSave);
     }
-    buffer[..4].copy_from_slice(&count.to_le_bytes());
-    buffer[4..length].fill(0);
+    buffer[..length].fill(0);
+    put_number(buffer, 0, count);
     Ok(length)
 }
 

@@ -71,37 +71,34 @@ fn random_pictures_read_back(rt: HostRuntime) -> Result<(), Fail> {
     Ok(())
 }
 
-// The number and the place that the check gives, or 0 and the number of lines.
-fn told(bytes: &[u8]) -> (u8, usize) {
-    match check_picture(bytes) {
-        Ok(count) => (0, count as usize),
-        Err(fault) => (u8::from(Refusal::from(fault)), fault.place()),
-    }
+// The number of lines that the check finds, or the number and the place of the fault.
+fn told(bytes: &[u8]) -> Result<u32, (u8, usize)> {
+    check_picture(bytes).map_err(|fault| (u8::from(Refusal::from(fault)), fault.place()))
 }
 
 #[test]
 fn short_strings_are_refused(rt: HostRuntime) {
     let bytes = [1, 0, 0, 0, 9];
-    assert_eq!(rt; told(&bytes[0..0]), (15, 0));
-    assert_eq!(rt; told(&bytes[0..1]), (15, 0));
-    assert_eq!(rt; told(&bytes[0..2]), (15, 0));
-    assert_eq!(rt; told(&bytes[0..3]), (15, 0));
-    assert_eq!(rt; told(&bytes[0..4]), (16, 4));
-    assert_eq!(rt; told(&bytes[0..5]), (16, 5));
+    assert_eq!(rt; told(&bytes[0..0]), Err((15, 0)));
+    assert_eq!(rt; told(&bytes[0..1]), Err((15, 0)));
+    assert_eq!(rt; told(&bytes[0..2]), Err((15, 0)));
+    assert_eq!(rt; told(&bytes[0..3]), Err((15, 0)));
+    assert_eq!(rt; told(&bytes[0..4]), Err((16, 4)));
+    assert_eq!(rt; told(&bytes[0..5]), Err((16, 5)));
 }
 
 #[test]
 fn line_counts_at_the_limits(rt: HostRuntime) -> Result<(), Fail> {
     let cases = [
-        (0u32, 4usize, (15u8, 0usize)),
-        (1, 21, (0, 1)),
-        (1, 22, (16, 21)),
-        (1, 20, (16, 20)),
-        (2048, 34_820, (0, 2048)),
-        (2048, 34_819, (16, 34_819)),
-        (2048, 34_821, (16, 34_820)),
-        (2049, 34_837, (15, 0)),
-        (4_294_967_295, 64, (15, 0)),
+        (0u32, 4usize, Err((15u8, 0usize))),
+        (1, 21, Ok(1)),
+        (1, 22, Err((16, 21))),
+        (1, 20, Err((16, 20))),
+        (2048, 34_820, Ok(2048)),
+        (2048, 34_819, Err((16, 34_819))),
+        (2048, 34_821, Err((16, 34_820))),
+        (2049, 34_837, Err((15, 0))),
+        (4_294_967_295, 64, Err((15, 0))),
     ];
     for (count, length, expected) in cases {
         let mut bytes = vec![in rt.alloc(); 0u8; length]?;
@@ -116,17 +113,17 @@ fn line_counts_at_the_limits(rt: HostRuntime) -> Result<(), Fail> {
 fn damaged_states_are_placed(rt: HostRuntime) {
     let mut bytes = [0u8; 55];
     bytes[0] = 3;
-    assert_eq!(rt; told(&bytes), (0, 3));
+    assert_eq!(rt; told(&bytes), Ok(3));
     // A value may be any byte; of two bad state bytes the first is told.
     bytes[51] = 255;
-    assert_eq!(rt; told(&bytes), (0, 3));
+    assert_eq!(rt; told(&bytes), Ok(3));
     bytes[54] = 16;
-    assert_eq!(rt; told(&bytes), (17, 54));
+    assert_eq!(rt; told(&bytes), Err((17, 54)));
     bytes[52] = 240;
-    assert_eq!(rt; told(&bytes), (17, 52));
+    assert_eq!(rt; told(&bytes), Err((17, 52)));
     bytes[52] = 15;
     bytes[54] = 15;
-    assert_eq!(rt; told(&bytes), (0, 3));
+    assert_eq!(rt; told(&bytes), Ok(3));
 }
 
 #[test]
