@@ -103,7 +103,7 @@ fn put_number(bytes: &mut [u8], at: usize, value: u32)
     bytes[at..at + 4].copy_from_slice(&value.to_le_bytes());
 }
 
-// The state that a byte has for the place with this weight: 1, 2, 4 or 8.
+// The state that a bit of a picture stands for. A function, since each bit stands for one and a `TryFrom` could fail.
 fn state_from(bit: u8) -> WordState
     ensures { result ≡ state_from bit }
 {
@@ -114,6 +114,7 @@ fn state_from(bit: u8) -> WordState
     }
 }
 
+// Four states in a byte: a picture's own, so no `From` of a line.
 fn state_byte(line: &Line) -> u8
     ensures { result ≡ state_byte line.now }
 {

@@ -84,6 +84,7 @@ pub enum Fault {
     Rejected(Refusal),
 }
 
+// By hand, since a derived one would have no contract on its text.
 impl fmt::Display for Fault {
     ghost output = { λ fault. Some (shown_fault fault) };
 

@@ -43,8 +43,8 @@ impl Notice {
     }
 }
 
-// All six figures are there for every outcome: unless it is done, `value` and `woken` are 0 and nothing is told; where it
-// waits, `found` is empty too. So the device drives the same wires whatever it answers.
+// By a rule of the project all six figures are there for every outcome: unless it is done, `value` and `woken` are 0 and
+// nothing is told; where it waits, `found` is empty too.
 #[derive(Clone, Copy, Debug, PartialEq, Eq)]
 pub struct Answer {
     // The request's number.

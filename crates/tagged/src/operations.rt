@@ -21,6 +21,7 @@ pub enum Class {
 }
 
 impl Class {
+    // By hand, as `from_letter` is: a `From` for `u8` would give a byte a second meaning beside the class's number.
     fn letter(self) -> u8
         ensures { result ≡ class_letter self }
     {
@@ -103,6 +104,7 @@ impl Operation {
         }
     }
 
+    // Four bytes, which a `Display` would give as text only.
     pub fn name(self) -> [u8; 4]
         ensures { result ≡ name_of self }
     {
@@ -165,7 +167,8 @@ impl fmt::Display for UnknownName {
 
 impl Error for UnknownName {}
 
-// The operation with a name; none where the bytes are no operation's name.
+// The operation with a name; none where the bytes are no operation's name. By a rule of the project slice patterns of four
+// letters tell it, one for reads and one for writes.
 impl TryFrom<&[u8]> for Operation {
     type Error = UnknownName;
 
@@ -187,7 +190,7 @@ impl TryFrom<&[u8]> for Operation {
     }
 }
 
-// The second letter of a name: A if the operation is altering, else N.
+// The second letter of a name: A if the operation is altering, else N. By hand, since a `bool` has no such letter elsewhere.
 fn alter_letter(altering: bool) -> u8
     ensures { result ≡ alter_letter altering }
 {

@@ -7,7 +7,7 @@ use crate::answers::{Notice, Outcome};
 use crate::operations::{Class, Operation};
 use crate::words::{Word, WordState};
 
-// What an operation on a word answers, and the word afterwards.
+// What an operation on a word answers, and the word afterwards. The figures stand beside the outcome, as in an answer.
 #[derive(Clone, Copy, Debug, PartialEq, Eq)]
 pub struct Served {
     pub outcome: Outcome,
