@@ -125,13 +125,13 @@ fn state_byte(line: &Line) -> u8
 // The lines of a picture at a buffer's front. Where there are none, the buffer may be of any length.
 #[derive(Drop)]
 pub(crate) struct Front<'a> {
-    pub bytes: &'a mut [u8],
-    pub count: u32,
+    pub(crate) bytes: &'a mut [u8],
+    pub(crate) count: u32,
     ghost fits: { 0 < count → picture_length count ≤ length bytes.now },
 }
 
 impl Front<'_> {
-    pub fn line(&self, n: u32) -> Line
+    pub(crate) fn line(&self, n: u32) -> Line
         requires { n < self.now.count }
         ensures { result ≡ line_at self.now.count self.now.bytes.now n }
     {
@@ -143,7 +143,7 @@ impl Front<'_> {
         }
     }
 
-    pub fn replace(&mut self, n: u32, line: Line)
+    pub(crate) fn replace(&mut self, n: u32, line: Line)
         requires { n < self.old.count }
         ensures same_reference { self.new.bytes.ghost_name ≡ self.old.bytes.ghost_name }
         ensures count { self.new.count ≡ self.old.count }
