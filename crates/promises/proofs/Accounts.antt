@@ -38,10 +38,7 @@ pub record Counted (x : Outcome) (k : ℕ) (before after : Counts) : Type 0 wher
   pub sum : after.done + after.discarded + after.trapped ≡ length (number_if (is_answer x) k) + (before.done + before.discarded + before.trapped)
 
 pub counted : (x : Outcome) (k : ℕ) (n : Counts) → Counted x k n (count_outcome x n)
-counted Done k n = record { accepted = refl; done = omega arith; discarded = omega arith; trapped = omega arith; withdrawn = refl; sum = omega arith }
-counted Discarded k n = record { accepted = refl; done = omega arith; discarded = omega arith; trapped = omega arith; withdrawn = refl; sum = omega arith }
-counted Trap k n = record { accepted = refl; done = omega arith; discarded = omega arith; trapped = omega arith; withdrawn = refl; sum = omega arith }
-counted Waits k n = record { accepted = refl; done = omega arith; discarded = omega arith; trapped = omega arith; withdrawn = refl; sum = omega arith }
+counted x k n = grind arith
 
 -- what a call adds: accepted numbers, an answer to request j with outcome x, withdrawn numbers
 pub record Adds (c : Call) (s t : State) (new : List ℕ) (x : Outcome) (j : ℕ) (gone : List ℕ) : Type 0 where

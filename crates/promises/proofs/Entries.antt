@@ -1,6 +1,8 @@
 -- Facts on lists of waiting requests: what waking, sleeping, adding and removing keep.
-use Rattle.std.proofs.Common.{◌≡◌, ℕ, Bool, true, false, not, ◌&&◌, ◌⊎◌, List, [], ◌∷◌, ◌++◌, map, Some, None, Option, sym, refl, ◌∙◌, subst, inl, inr, ⊎_elim, arith}
-use Rattle.std.proofs.lemmas.Bool.{cases_Bool, eq-eqb, eqb-true, or_left, or_right, cond-true, cond-false}
+use Rattle.std.proofs.Common.{◌≡◌, ℕ, true, false, not, ◌&&◌, ◌⊎◌, List, [], ◌∷◌, ◌++◌, map, Some, Option, sym, refl, ◌∙◌, subst, inl, inr, ⊎_elim, arith, rules}
+use Rattle.std.proofs.lemmas.Bool.{cases_Bool, eqb-true, cond-true, cond-false, cond_both}
+use Rattle.std.proofs.lemmas.Bool.Decides.{nat_tests}
+use Rattle.std.proofs.lemmas.Option.{none-some, same_Some}
 use Rattle.tagged.specs.declared.answers.Notice.{Notice}
 use Rattle.promises.specs.Board.{Entry}
 use Rattle.promises.specs.Lists.{on_word, any_entry, numbered, without, set_asleep, put_to_sleep, oldest_ready, wakes, wake}
@@ -21,15 +23,12 @@ Present x (e ∷ es) = SameRequest x e ⊎ Present x es
 pub same_request : (x : Entry) → SameRequest x x
 same_request x = record { number = refl; operation = refl; word = refl; value = refl }
 
-set_same : (x e : Entry) (b : Bool) → SameRequest x e → SameRequest x (set_asleep b e)
-set_same x e b h = record { number = h.number; operation = h.operation; word = h.word; value = h.value }
-
 -- waking one changes only whether it sleeps
 pub wake_cases : (n : Option Notice) (w : ℕ) (e : Entry) → ((wakes n w e ≡ true) × (wake n w e ≡ set_asleep false e)) ⊎ ((wakes n w e ≡ false) × (wake n w e ≡ e))
-wake_cases n w e = ⊎_elim (λ t. inl (t, cond-true _ _ _ t)) (λ f. inr (f, cond-false _ _ _ f)) (cases_Bool (wakes n w e))
+wake_cases n w e = grind arith
 
 wake_same : (n : Option Notice) (w : ℕ) (x e : Entry) → SameRequest x e → SameRequest x (wake n w e)
-wake_same n w x e h = ⊎_elim (λ p. subst (SameRequest x) (sym p.1) (set_same x e false h)) (λ p. subst (SameRequest x) (sym p.1) h) (wake_cases n w e)
+wake_same n w x e h = search (rules, cond_both)
 
 pub present_wake : (n : Option Notice) (w : ℕ) (x : Entry) (es : List Entry) → Present x es → Present x (map (wake n w) es)
 present_wake n w x [] h = h
@@ -38,49 +37,35 @@ present_wake n w x (e ∷ es) (inr h) = inr (present_wake n w x es h)
 
 pub present_append : (x : Entry) (es fs : List Entry) → Present x es → Present x (es ++ fs)
 present_append x [] fs h = absurd h
-present_append x (e ∷ es) fs (inl h) = inl h
-present_append x (e ∷ es) fs (inr h) = inr (present_append x es fs h)
+present_append x (e ∷ es) fs h = search (rules, present_append x es fs)
 
 pub present_sleep : (k : ℕ) (x : Entry) (es : List Entry) → Present x es → Present x (put_to_sleep k es)
 present_sleep k x [] h = h
-present_sleep k x (e ∷ es) h =
-    ⊎_elim
-    (λ t. subst (Present x) (sym (cond-true _ _ _ t)) (⊎_elim (λ s. inl (set_same x e true s)) (λ p. inr p) h))
-    (λ f. subst (Present x) (sym (cond-false _ _ _ f)) (⊎_elim (λ s. inl s) (λ p. inr (present_sleep k x es p)) h))
-    (cases_Bool (numbered k e))
+present_sleep k x (e ∷ es) h = cond_both (numbered k e) _ _ (Present x) (λ t. search rules) (λ f. search (rules, present_sleep k x es))
 
 pub present_without : (k : ℕ) (x : Entry) (es : List Entry) → (x.number ≡ k → ⊥) → Present x es → Present x (without k es)
 present_without k x [] ne h = h
 present_without k x (e ∷ es) ne h =
-    ⊎_elim
-    (λ t. subst (Present x) (sym (cond-true _ _ _ t)) (⊎_elim (λ s. absurd (ne (s.number ∙ eqb-true _ k t))) (λ p. p) h))
-    (λ f. subst (Present x) (sym (cond-false _ _ _ f)) (⊎_elim (λ s. inl s) (λ p. inr (present_without k x es ne p)) h))
-    (cases_Bool (numbered k e))
+    cond_both (numbered k e) _ _ (Present x) (λ t. ⊎_elim (λ s. absurd (ne (s.number ∙ eqb-true _ k t))) (λ p. p) h) (λ f. search (rules, present_without k x es ne))
 
 pub present_on_word : (x : Entry) (es : List Entry) → Present x es → any_entry (on_word x.word) es ≡ true
 present_on_word x [] h = absurd h
-present_on_word x (e ∷ es) (inl h) = or_left _ _ (eq-eqb _ _ (sym h.word))
-present_on_word x (e ∷ es) (inr h) = or_right _ _ (present_on_word x es h)
+present_on_word x (e ∷ es) (inl h) = grind (arith, nat_tests)
+present_on_word x (e ∷ es) (inr h) = grind (arith, present_on_word x es h)
 
 pub present_numbered : (x : Entry) (es : List Entry) → Present x es → any_entry (numbered x.number) es ≡ true
 present_numbered x [] h = absurd h
-present_numbered x (e ∷ es) (inl h) = or_left _ _ (eq-eqb _ _ (sym h.number))
-present_numbered x (e ∷ es) (inr h) = or_right _ _ (present_numbered x es h)
+present_numbered x (e ∷ es) (inl h) = grind (arith, nat_tests)
+present_numbered x (e ∷ es) (inr h) = grind (arith, present_numbered x es h)
 
 -- the oldest ready request stands in the list
 pub ready_present : (older es : List Entry) (x : Entry) → oldest_ready older es ≡ Some x → Present x es
-ready_present older [] x e = absurd (none_some e)
-  where
-    none_some : {A : Type 0} {a : A} → None ≡ Some a → ⊥
-    none_some p = let z : ◌≡◌ {A = ℕ} 0 1 = cc in omega arith
+ready_present older [] x e = absurd (none-some x e)
 ready_present older (f ∷ es) x e =
     ⊎_elim
-    (λ t. inl (subst (λ y. SameRequest y f) (some_same (sym (cond-true _ _ _ t) ∙ e)) (same_request f)))
+    (λ t. inl (subst (λ y. SameRequest y f) (same_Some f x (sym (cond-true _ _ _ t) ∙ e)) (same_request f)))
     (λ n. inr (ready_present (f ∷ older) es x (sym (cond-false _ _ _ n) ∙ e)))
     (cases_Bool (not f.asleep && not (any_entry (on_word f.word) older)))
-  where
-    some_same : {A : Type 0} {a b : A} → Some a ≡ Some b → a ≡ b
-    some_same p = cc
 
 -- what holds of every entry
 module _ (P Q : Entry → Type 0) where
@@ -103,14 +88,12 @@ module _ (P : Entry → Type 0) where
 
   pub every_without : (k : ℕ) (es : List Entry) → EveryEntry P es → EveryEntry P (without k es)
   every_without k [] h = tt
-  every_without k (e ∷ es) h =
-      ⊎_elim (λ t. subst (EveryEntry P) (sym (cond-true _ _ _ t)) h.1) (λ f. subst (EveryEntry P) (sym (cond-false _ _ _ f)) (h.0, every_without k es h.1)) (cases_Bool (numbered k e))
+  every_without k (e ∷ es) h = cond_both (numbered k e) _ _ (EveryEntry P) (λ t. h.1) (λ f. (h.0, every_without k es h.1))
 
   -- the request that falls asleep keeps P if P holds of it asleep
   pub every_sleep : (k : ℕ) (es : List Entry) → ((e : Entry) → e.number ≡ k → P e → P (set_asleep true e)) → EveryEntry P es → EveryEntry P (put_to_sleep k es)
   every_sleep k [] f h = tt
-  every_sleep k (e ∷ es) f h =
-      ⊎_elim (λ t. subst (EveryEntry P) (sym (cond-true _ _ _ t)) (f e (eqb-true _ k t) h.0, h.1)) (λ n. subst (EveryEntry P) (sym (cond-false _ _ _ n)) (h.0, every_sleep k es f h.1)) (cases_Bool (numbered k e))
+  every_sleep k (e ∷ es) f h = cond_both (numbered k e) _ _ (EveryEntry P) (λ t. (f e (eqb-true _ k t) h.0, h.1)) (λ n. (h.0, every_sleep k es f h.1))
 
   -- P holds of a request that stands in the list, if it does not look at whether it sleeps
   pub every_present : (x : Entry) (es : List Entry) → ((e : Entry) → SameRequest x e → P e → P x) → EveryEntry P es → Present x es → P x

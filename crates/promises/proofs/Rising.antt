@@ -1,11 +1,13 @@
 -- Lists stand in the order of issue, and the request that has the bus is the oldest on its word.
-use Rattle.std.proofs.Common.{◌≡◌, ℕ, ◌<◌, ◌≤◌, Bool, true, false, not, ◌&&◌, ◌||◌, List, [], ◌∷◌, ◌++◌, map, Some, None, Option, sym, refl, ◌∙◌, subst, ⊎_elim, arith}
-use Rattle.std.proofs.lemmas.Bool.{cases_Bool, eq-eqb, not-true, and_parts, both_ways, cond-true, cond-false}
+use Rattle.std.proofs.Common.{◌≡◌, ℕ, ◌<◌, ◌≤◌, false, not, ◌&&◌, List, [], ◌∷◌, ◌++◌, map, Some, Option, sym, ◌∙◌, subst, ⊎_elim, arith}
+use Rattle.std.proofs.lemmas.Bool.{cases_Bool, cond-true, cond-false, cond_both}
+use Rattle.std.proofs.lemmas.Bool.Decides.{nat_tests}
+use Rattle.std.proofs.lemmas.Option.{none-some, same_Some}
 use Rattle.tagged.specs.declared.answers.Notice.{Notice}
 use Rattle.promises.specs.Board.{Entry}
-use Rattle.promises.specs.Lists.{any_entry, on_word, numbered, without, put_to_sleep, set_asleep, wake, oldest_ready}
+use Rattle.promises.specs.Lists.{any_entry, on_word, numbered, without, put_to_sleep, wake, oldest_ready, wakes}
 use Rattle.promises.specs.Promises.{EveryEntry}
-use Rattle.promises.proofs.Entries.{wake_cases, every_weaker, every_map, every_append, every_without, every_sleep}
+use Rattle.promises.proofs.Entries.{every_weaker, every_map, every_append, every_without, every_sleep}
 
 -- numbers rise along the list
 abbrev pub Rising : List Entry → Type 0
@@ -29,7 +31,7 @@ within_then x y = record { each = λ P h. y.each P (x.each P h); rising = λ h. 
 
 module _ (n : Option Notice) (w : ℕ) where
   wake_each : (P : ℕ → ℕ → Type 0) (e : Entry) → P e.number e.word → P (wake n w e).number (wake n w e).word
-  wake_each P e h = ⊎_elim (λ x. subst (λ (y : Entry). P y.number y.word) (sym x.1) h) (λ x. subst (λ (y : Entry). P y.number y.word) (sym x.1) h) (wake_cases n w e)
+  wake_each P e h = cond_both (wakes n w e) _ _ (λ (y : Entry). P y.number y.word) (λ t. h) (λ f. h)
 
   each_wake : (P : ℕ → ℕ → Type 0) (es : List Entry) → Each P es → Each P (map (wake n w) es)
   each_wake P es h = every_map (λ e. P e.number e.word) (λ e. P e.number e.word) (wake n w) (wake_each P) es h
@@ -44,22 +46,14 @@ module _ (n : Option Notice) (w : ℕ) where
 module _ (k : ℕ) where
   rising_sleep : (es : List Entry) → Rising es → Rising (put_to_sleep k es)
   rising_sleep [] h = tt
-  rising_sleep (e ∷ es) h =
-      ⊎_elim
-      (λ t. subst Rising (sym (cond-true (numbered k e) (set_asleep true e ∷ es) (e ∷ put_to_sleep k es) t)) h)
-      (λ f. subst Rising (sym (cond-false (numbered k e) (set_asleep true e ∷ es) (e ∷ put_to_sleep k es) f)) (every_sleep (λ f. e.number < f.number) k es (λ g same p. p) h.0, rising_sleep es h.1))
-      (cases_Bool (numbered k e))
+  rising_sleep (e ∷ es) h = cond_both (numbered k e) _ _ Rising (λ t. h) (λ f. (every_sleep (λ f. e.number < f.number) k es (λ g same p. p) h.0, rising_sleep es h.1))
 
   pub within_sleep : (es : List Entry) → Within es (put_to_sleep k es)
   within_sleep es = record { each = λ P. every_sleep (λ e. P e.number e.word) k es (λ g same p. p); rising = rising_sleep es }
 
   rising_without : (es : List Entry) → Rising es → Rising (without k es)
   rising_without [] h = tt
-  rising_without (e ∷ es) h =
-      ⊎_elim
-      (λ t. subst Rising (sym (cond-true (numbered k e) es (e ∷ without k es) t)) h.1)
-      (λ f. subst Rising (sym (cond-false (numbered k e) es (e ∷ without k es) f)) (every_without (λ f. e.number < f.number) k es h.0, rising_without es h.1))
-      (cases_Bool (numbered k e))
+  rising_without (e ∷ es) h = cond_both (numbered k e) _ _ Rising (λ t. h.1) (λ f. (every_without (λ f. e.number < f.number) k es h.0, rising_without es h.1))
 
   pub within_without : (es : List Entry) → Within es (without k es)
   within_without es = record { each = λ P. every_without (λ e. P e.number e.word) k es; rising = rising_without es }
@@ -70,25 +64,14 @@ rising_append (x ∷ es) e below h = (every_append (λ f. x.number < f.number) e
 
 -- the oldest ready request is the oldest of its list on its word
 pub ready_oldest : (older es : List Entry) (x : Entry) → Rising es → oldest_ready older es ≡ Some x → (any_entry (on_word x.word) older ≡ false) × Each (λ k w. x.word ≡ w → x.number ≤ k) es
-ready_oldest older [] x h e = absurd (none_some e)
-  where
-    none_some : {A : Type 0} {a : A} → None ≡ Some a → ⊥
-    none_some p = let z : ◌≡◌ {A = ℕ} 0 1 = cc in omega arith
+ready_oldest older [] x h e = absurd (none-some x e)
 ready_oldest older (f ∷ es) x h e =
     ⊎_elim
     (λ t.
-    let same : f ≡ x = some_same (sym (cond-true _ _ _ t) ∙ e) in
+    let same = same_Some f x (sym (cond-true _ _ _ t) ∙ e) in
     subst (λ (y : Entry). (any_entry (on_word y.word) older ≡ false) × Each (λ k w. y.word ≡ w → y.number ≤ k) (f ∷ es)) same
-    (not-true _ (and_parts (not f.asleep) _ t).1, ((λ q. omega arith), every_weaker (λ g. f.number < g.number) (λ g. f.word ≡ g.word → f.number ≤ g.number) (λ g less q. omega (arith, less)) es h.0)))
+    (grind arith, ((λ q. omega arith), every_weaker (λ g. f.number < g.number) (λ g. f.word ≡ g.word → f.number ≤ g.number) (λ g less q. omega (arith, less)) es h.0)))
     (λ n.
     let rest = ready_oldest (f ∷ older) es x h.1 (sym (cond-false _ _ _ n) ∙ e) in
-    let parts = neither (on_word x.word f) (any_entry (on_word x.word) older) rest.0 in
-    (parts.1, ((λ q. absurd (both_ways (on_word x.word f) parts.0 (eq-eqb f.word x.word (sym q)))), rest.1)))
+    (grind arith, ((λ q. grind (arith, nat_tests)), rest.1)))
     (cases_Bool (not f.asleep && not (any_entry (on_word f.word) older)))
-  where
-    some_same : {A : Type 0} {a b : A} → Some a ≡ Some b → a ≡ b
-    some_same p = cc
-
-    neither : (a b : Bool) → (a || b) ≡ false → (a ≡ false) × (b ≡ false)
-    neither true b q = absurd (both_ways true q refl)
-    neither false b q = (refl, q)
