@@ -42,10 +42,6 @@ pub opening_line : (f : ℕ → Content) (n : ℕ) → f n ≡ line_by_words (λ
 unfolding word_in
 opening_line f n = grind arith
 
-pub put_same : (f : Content) (w : ℕ) → with_word_in f w (word_in f w) ≡ f
-unfolding word_in with_word_in
-put_same f w = grind (arith, places w)
-
 -- a changed word changes its line, and no other
 pub line_put : (f : ℕ → Word) (w : ℕ) (x : Word) → line_by_words (updated f w x) (line_of w) ≡ with_word_in (line_by_words f (line_of w)) w x
 unfolding with_word_in
@@ -65,6 +61,3 @@ module _ (T : ℕ → Word) (g : Word → Word) (w : ℕ) where
 
   pub changed_other : (m : ℕ) → (m ≡ line_of w → ⊥) → line_by_words (changed T g w) m ≡ line_by_words T m
   changed_other m ne = line_kept T w m (g (T w)) ne
-
-  pub unchanged_line : g (T w) ≡ T w → line_by_words (changed T g w) (line_of w) ≡ line_by_words T (line_of w)
-  unchanged_line e = grind (arith, line_put T w (g (T w)), line_word T w, put_same (line_by_words T (line_of w)) w)

@@ -1,16 +1,16 @@
 -- Copies and memory hold the one tagged memory's lines: what calls that do not serve a word keep of that.
-use Rattle.std.proofs.Common.{◌≡◌, ℕ, ◌%◌, ◌<◌, Bool, true, false, ◌&&◌, eqb, ◌⊎◌, sym, refl, ap, ◌∙◌, inl, inr, ⊎_elim, arith}
-use Rattle.std.proofs.lemmas.Bool.{cases_eq, cases_Bool, and_parts, and_left, and_right, both_ways, cond-true, cond-false}
+use Rattle.std.proofs.Common.{◌≡◌, ℕ, ◌%◌, ◌<◌, Bool, true, false, ◌&&◌, eqb, ◌⊎◌, sym, refl, ap, ◌∙◌, ⊎_elim, arith}
+use Rattle.std.proofs.lemmas.Bool.Decides.{nat_tests}
+use Rattle.std.proofs.lemmas.Bool.{cases_eq, cases_Bool, and_left, both_ways, cond-true, cond-false, false_from_ne_true}
 use Rattle.protocol.specs.Rules.{Rules, Lawful}
 use Rattle.tagged.specs.declared.words.Word.{Word}
-use Rattle.promises.specs.Board.{Content, Frame, own_copy, read_in, claimed, unmet, Bus, free, granted, snooped, State, line_of, frame_of}
-use Rattle.promises.specs.Copies.{copy, keeps, owns, owes, lowest, any_core}
+use Rattle.promises.specs.Board.{Frame, own_copy, read_in, claimed, unmet, Bus, free, granted, snooped, State, line_of, frame_of}
+use Rattle.promises.specs.Copies.{copy, keeps, owns, owes, any_core}
 use Rattle.promises.specs.Refusing.{is_free}
-use Rattle.promises.specs.Steps.{updated, dropped, evicted_state, drained_state}
+use Rattle.promises.specs.Steps.{dropped, evicted_state, drained_state}
 use Rattle.promises.specs.OneMemory.{line_by_words}
 use Rattle.promises.specs.Promises.{WritersAreAlone}
-use Rattle.promises.proofs.Contents.{updated_same, updated_other}
-use Rattle.promises.proofs.Frames.{kept_of, keeps_same, frame_cases, lowest_passes, none_passes}
+use Rattle.promises.proofs.Frames.{kept_of, keeps_same, frame_cases, lowest_passes, no_core_passes}
 
 -- line n travels on the bus to be claimed
 abbrev pub claiming : Bus → ℕ → Bool
@@ -46,8 +46,11 @@ module _ (r : Rules) (T : ℕ → Word) (s t : State) (was : Copies r T s) (fewe
 pub keeps_empty : (r : Rules) → Lawful r → (s : State) (c n : ℕ) → (copy s c n).code ≡ 0 → keeps r s c n ≡ true → ⊥
 keeps_empty r law s c n e k = both_ways (r.kept 0) law.zero_not_kept (ap r.kept (sym e) ∙ (kept_of r s c n k).code)
 
-owns_keeps : (r : Rules) (s : State) (c n : ℕ) → owns r s c n ≡ true → keeps r s c n ≡ true
-owns_keeps r s c n e = (and_parts (keeps r s c n) _ e).0
+pub owns_keeps : (r : Rules) (s : State) (c n : ℕ) → owns r s c n ≡ true → keeps r s c n ≡ true
+owns_keeps r s c n e = grind arith
+
+pub owes_keeps : (r : Rules) (s : State) (c n : ℕ) → owes r s c n ≡ true → keeps r s c n ≡ true
+owes_keeps r s c n e = grind arith
 
 -- a frame keeps one line
 pub one_line : (r : Rules) (s : State) (c n m : ℕ) → keeps r s c n ≡ true → keeps r s c m ≡ true → n % 16 ≡ m % 16 → n ≡ m
@@ -62,7 +65,7 @@ owns_same r s t c n e = λ i. keeps_same r s t c n e i && r.sole (e i).code
 
 -- what is not kept does not owe
 pub not_kept_not_owing : (r : Rules) (s : State) (c n : ℕ) → (keeps r s c n ≡ true → ⊥) → owes r s c n ≡ false
-not_kept_not_owing r s c n no_copy = ⊎_elim (λ t. absurd (no_copy t)) (λ f. and_left (keeps r s c n) _ f) (cases_Bool (keeps r s c n))
+not_kept_not_owing r s c n no_copy = and_left (keeps r s c n) _ (false_from_ne_true _ no_copy)
 
 -- EVICT: the copy of line n in core c is dropped, written first if owing
 module _ (r : Rules) (law : Lawful r) (T : ℕ → Word) (s : State) (c w : ℕ) (was : Copies r T s) (kept : keeps r s c (line_of w) ≡ true) where
@@ -71,9 +74,7 @@ module _ (r : Rules) (law : Lawful r) (T : ℕ → Word) (s : State) (c w : ℕ)
 
   place : (d n : ℕ) → ((d ≡ c) × (n % 16 ≡ line_of w % 16) × ((copy after d n).code ≡ 0)) ⊎ (((d ≡ c) × (n % 16 ≡ line_of w % 16) → ⊥) × (copy after d n ≡ copy s d n))
   unfolding after
-  place d n =
-      ⊎_elim (λ p. inl (p.0, p.1, ap (λ (f : Frame). f.code) p.2)) (λ p. inr p)
-      (frame_cases s.frame c (frame_of (line_of w)) (dropped (copy s c (line_of w))) d (frame_of n))
+  place d n = grind (arith, frame_cases s.frame c (frame_of (line_of w)) (dropped (copy s c (line_of w))) d (frame_of n))
 
   unchanged : (d n : ℕ) → keeps r after d n ≡ true → copy after d n ≡ copy s d n
   unchanged d n k = ⊎_elim (λ p. absurd (keeps_empty r law after d n p.2 k)) (λ p. p.1) (place d n)
@@ -89,63 +90,38 @@ module _ (r : Rules) (law : Lawful r) (T : ℕ → Word) (s : State) (c w : ℕ)
 
   -- a copy that owed still does, unless it is the one that was dropped
   still : (d n : ℕ) → (n ≡ line_of w → d ≡ c → ⊥) → owes r after d n ≡ false → owes r s d n ≡ false
-  still d n apart e =
-      ⊎_elim
-      (λ p. not_kept_not_owing r s d n (λ k. apart (one_line r s c n (line_of w) (ap (λ x. keeps r s x n) (sym p.0) ∙ k) kept p.1) p.0))
-      (λ p. sym (owes_same r after s d n p.1) ∙ e)
-      (place d n)
+  still d n apart e = grind (arith, place d n, not_kept_not_owing r s d n, one_line r s c n (line_of w), owes_same r after s d n)
 
   evict_memory : (n : ℕ) → ((d : ℕ) → owes r after d n ≡ false) → claiming s.bus n ≡ false → after.memory n ≡ line_by_words T n
   unfolding after
-  evict_memory n none quiet = ⊎_elim here elsewhere (cases_eq n (line_of w))
-    where
-      here : n ≡ line_of w → after.memory n ≡ line_by_words T n
-      here e =
-          ⊎_elim
-          (λ t.
-          ap (λ (m : ℕ → Content). m n) (cond-true (r.owing (copy s c (line_of w)).code) _ s.memory t)
-          ∙ ap (updated s.memory (line_of w) (copy s c (line_of w)).content) e
-          ∙ updated_same s.memory (line_of w) (copy s c (line_of w)).content
-          ∙ was.true_copies c (line_of w) kept
-          ∙ ap (line_by_words T) (sym e))
-          (λ f.
-          ap (λ (m : ℕ → Content). m n) (cond-false (r.owing (copy s c (line_of w)).code) _ s.memory f)
-          ∙ was.true_memory n
-          (λ d. ⊎_elim (λ same. ap (λ x. owes r s x n) same ∙ ap (owes r s c) e ∙ and_right (keeps r s c (line_of w)) _ f) (λ ne. still d n (λ _ same. ne same) (none d)) (cases_eq d c))
-          quiet)
-          (cases_Bool (r.owing (copy s c (line_of w)).code))
-
-      elsewhere : (n ≡ line_of w → ⊥) → after.memory n ≡ line_by_words T n
-      elsewhere ne =
-          ⊎_elim
-          (λ t. ap (λ (m : ℕ → Content). m n) (cond-true (r.owing (copy s c (line_of w)).code) _ s.memory t) ∙ updated_other s.memory (line_of w) n (copy s c (line_of w)).content ne)
-          (λ f. ap (λ (m : ℕ → Content). m n) (cond-false (r.owing (copy s c (line_of w)).code) _ s.memory f))
-          (cases_Bool (r.owing (copy s c (line_of w)).code))
-          ∙ was.true_memory n (λ d. still d n (λ same _. ne same) (none d)) quiet
+  evict_memory n none quiet =
+      ⊎_elim
+      (λ e.
+      ⊎_elim
+      (λ t. grind (arith, nat_tests, was.true_copies c (line_of w) kept))
+      (λ f. grind (arith, nat_tests, was.true_memory n (λ d. ⊎_elim (λ same. grind arith) (λ ne. still d n (λ _ same. ne same) (none d)) (cases_eq d c)) quiet))
+      (cases_Bool (r.owing (copy s c (line_of w)).code)))
+      (λ ne. grind (arith, nat_tests, was.true_memory n (λ d. still d n (λ same _. ne same) (none d)) quiet))
+      (cases_eq n (line_of w))
 
   pub evict_copies : Copies r T (evicted_state r s c w)
   unfolding after
   evict_copies = record {
-    codes = λ d i. ⊎_elim (λ p. rw p.2 (omega arith)) (λ p. rw p.1 (was.codes d i)) (frame_cases s.frame c (frame_of (line_of w)) (dropped (copy s c (line_of w))) d i);
-    placed = λ d i k.
-        ⊎_elim (λ p. absurd (both_ways (r.kept 0) law.zero_not_kept (sym (ap (λ (f : Frame). r.kept f.code) p.2) ∙ k)))
-        (λ p. ap (λ (f : Frame). f.line % 16) p.1 ∙ was.placed d i (sym (ap (λ (f : Frame). r.kept f.code) p.1) ∙ k))
-        (frame_cases s.frame c (frame_of (line_of w)) (dropped (copy s c (line_of w))) d i);
+    codes = λ d i. grind (arith, was.codes d i);
+    placed = λ d i k. grind (arith, nat_tests, law.zero_not_kept, was.placed d i);
     true_copies = fewer_true r T s after was evict_fewer;
     alone = fewer_alone r T s after was evict_fewer;
     true_memory = evict_memory;
   }
 
+-- a free bus claims no line
+pub free_claims_none : (b : Bus) (n : ℕ) → is_free b ≡ true → claiming b n ≡ false
+free_claims_none b n e = grind arith
+
 -- DRAIN: every copy is dropped, the owing ones written first
 module _ (r : Rules) (law : Lawful r) (T : ℕ → Word) (s : State) (was : Copies r T s) (quiet : is_free s.bus ≡ true) where
   none_kept : (c n : ℕ) → keeps r (drained_state r s) c n ≡ true → ⊥
   none_kept c n k = keeps_empty r law (drained_state r s) c n refl k
-
-  -- a free bus claims no line
-  free_claims_none : (b : Bus) (n : ℕ) → is_free b ≡ true → claiming b n ≡ false
-  free_claims_none free n e = refl
-  free_claims_none (granted t) n e = refl
-  free_claims_none (snooped t f) n e = absurd (both_ways false refl e)
 
   pub drain_copies : Copies r T (drained_state r s)
   drain_copies = record {
@@ -157,11 +133,7 @@ module _ (r : Rules) (law : Lawful r) (T : ℕ → Word) (s : State) (was : Copi
         ⊎_elim
         (λ t.
         let low = lowest_passes (λ c. owes r s c n) t in
-        cond-true _ _ (s.memory n) t ∙ was.true_copies _ n (and_parts (keeps r s (lowest (λ c. owes r s c n)) n) _ low.0).0)
-        (λ f.
-        cond-false _ _ (s.memory n) f
-        ∙ was.true_memory n
-        (λ c. ⊎_elim (λ k. none_passes (λ c. owes r s c n) f c (kept_of r s c n k).core) (λ no_copy. and_left (keeps r s c n) _ no_copy) (cases_Bool (keeps r s c n)))
-        (free_claims_none s.bus n quiet))
+        cond-true _ _ (s.memory n) t ∙ was.true_copies _ n (owes_keeps r s _ n low.0))
+        (λ f. cond-false _ _ (s.memory n) f ∙ was.true_memory n (no_core_passes (λ c. owes r s c n) f (λ c e. (kept_of r s c n (owes_keeps r s c n e)).core)) (free_claims_none s.bus n quiet))
         (cases_Bool (any_core (λ c. owes r s c n)));
   }

@@ -1,6 +1,5 @@
 -- A line is put into a frame, perhaps with a changed word.
-use Rattle.std.proofs.Common.{◌≡◌, ℕ, ◌%◌, ◌<◌, true, false, ◌⊎◌, sym, ap, ◌∙◌, inl, inr, ⊎_elim}
-use Rattle.std.proofs.lemmas.Bool.{cases_eq, and_parts}
+use Rattle.std.proofs.Common.{◌≡◌, ℕ, ◌%◌, ◌<◌, true, false, ◌⊎◌, sym, ap, ◌∙◌, arith}
 use Rattle.protocol.specs.Rules.{Rules}
 use Rattle.tagged.specs.declared.words.Word.{Word}
 use Rattle.promises.specs.Board.{Content, Frame, State, frame_of}
@@ -30,9 +29,7 @@ module _ (r : Rules) (T T' : ℕ → Word) (s : State) (c n code : ℕ) (content
 
   -- a frame is the one that was filled, or stayed
   pub put_cases : (d m : ℕ) → ((d ≡ c) × (m % 16 ≡ n % 16) × (copy after d m ≡ new)) ⊎ (((d ≡ c) × (m % 16 ≡ n % 16) → ⊥) × (copy after d m ≡ copy s d m))
-  put_cases d m =
-      ⊎_elim (λ p. inl (p.0, p.1, put.frames d (m % 16) ∙ p.2)) (λ p. inr (p.0, put.frames d (m % 16) ∙ p.1))
-      (frame_cases s.frame c (frame_of n) new d (m % 16))
+  put_cases d m = grind (arith, put.frames d (m % 16), frame_cases s.frame c (frame_of n) new d (m % 16))
 
   -- what the filled frame keeps is line n
   new_line : (d m : ℕ) → copy after d m ≡ new → keeps r after d m ≡ true → m ≡ n
@@ -42,44 +39,15 @@ module _ (r : Rules) (T T' : ℕ → Word) (s : State) (c n code : ℕ) (content
   kept_before d m e k = sym (keeps_same r after s d m e) ∙ k
 
   put_true : (d m : ℕ) → keeps r after d m ≡ true → (copy after d m).content ≡ line_by_words T' m
-  put_true d m k =
-      ⊎_elim
-      (λ p. ap (λ (f : Frame). f.content) p.2 ∙ put.true_content ∙ ap (line_by_words T') (sym (new_line d m p.2 k)))
-      (λ p.
-      let old = kept_before d m p.1 k in
-      ap (λ (f : Frame). f.content) p.1 ∙ was.true_copies d m old
-      ∙ ⊎_elim
-      (λ e. ap (line_by_words T) e ∙ sym (put.shared_line d (λ same. p.0 (same, ap (λ x. x % 16) e)) (ap (keeps r s d) (sym e) ∙ old)) ∙ ap (line_by_words T') (sym e))
-      (λ ne. sym (put.other_lines m ne))
-      (cases_eq m n))
-      (put_cases d m)
+  put_true d m k = grind (arith, put_cases d m, put.true_content, new_line d m, kept_before d m, was.true_copies d m, put.shared_line d, put.other_lines m)
 
   put_alone : WritersAreAlone r after
-  put_alone d e m own k =
-      let kept = and_parts (keeps r after d m) _ own in
-      ⊎_elim
-      (λ p.
-      let line = new_line d m p.2 kept.0 in
-      ⊎_elim (λ q. q.0 ∙ sym p.0)
-      (λ q. absurd (put.only (sym (ap (λ (f : Frame). r.sole f.code) p.2) ∙ kept.1) e (λ same. q.0 (same, ap (λ x. x % 16) line)) (ap (keeps r s e) (sym line) ∙ kept_before e m q.1 k)))
-      (put_cases e m))
-      (λ p.
-      let owned = sym (owns_same r after s d m p.1) ∙ own in
-      ⊎_elim
-      (λ q.
-      let line = new_line e m q.2 k in
-      absurd (put.no_owner d (λ same. p.0 (same, ap (λ x. x % 16) line)) (ap (owns r s d) (sym line) ∙ owned)))
-      (λ q. was.alone d e m owned (kept_before e m q.1 k))
-      (put_cases e m))
-      (put_cases d m)
+  put_alone d e m own k = grind (arith, put_cases d m, put_cases e m, new_line d m, new_line e m, kept_before d m, kept_before e m, put.only, put.no_owner d, owns_same r after s d m, was.alone d e m)
 
   pub put_copies : Copies r T' after
   put_copies = record {
-    codes = λ d i. ⊎_elim (λ p. rw (put.frames d i ∙ p.2) put.code_fits) (λ p. rw (put.frames d i ∙ p.1) (was.codes d i)) (frame_cases s.frame c (frame_of n) new d i);
-    placed = λ d i k.
-        ⊎_elim (λ p. ap (λ (f : Frame). f.line % 16) (put.frames d i ∙ p.2) ∙ sym p.1)
-        (λ p. ap (λ (f : Frame). f.line % 16) (put.frames d i ∙ p.1) ∙ was.placed d i (sym (ap (λ (f : Frame). r.kept f.code) (put.frames d i ∙ p.1)) ∙ k))
-        (frame_cases s.frame c (frame_of n) new d i);
+    codes = λ d i. grind (arith, put.frames d i, frame_cases s.frame c (frame_of n) new d i, put.code_fits, was.codes d i);
+    placed = λ d i k. grind (arith, put.frames d i, frame_cases s.frame c (frame_of n) new d i, was.placed d i);
     true_copies = put_true;
     alone = put_alone;
     true_memory = put.true_memory;

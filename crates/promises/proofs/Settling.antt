@@ -1,29 +1,26 @@
 -- A settle keeps copies and memory true; the one tagged memory serves the word at the same time.
-use Rattle.std.proofs.Common.{◌≡◌, ℕ, ◌%◌, ◌<◌, Bool, true, false, cond, not, eqb, sym, refl, ap, ◌∙◌, ⊎_elim}
-use Rattle.std.proofs.lemmas.Bool.{cases_eq, cases_Bool, eq-eqb, ne_eqb, not_from_false, and_parts, and_from, and_left, and_right, both_ways, cond-true, cond-false}
+use Rattle.std.proofs.Common.{◌≡◌, ℕ, ◌%◌, ◌<◌, Bool, true, false, cond, sym, refl, ap, ◌∙◌, ⊎_elim, arith}
+use Rattle.std.proofs.lemmas.Bool.Decides.{nat_tests}
+use Rattle.std.proofs.lemmas.Bool.{cases_eq, ne_eqb, both_ways, cond-true, cond-false, cond_both}
 use Rattle.protocol.specs.Rules.{Rules, Lawful}
 use Rattle.tagged.specs.Operations.{claims}
 use Rattle.tagged.specs.Rule.{done_by}
 use Rattle.tagged.specs.declared.operations.Operation.{Operation}
-use Rattle.tagged.specs.declared.operations.Operation.TheVariants.{Read, Write, Clear}
 use Rattle.tagged.specs.declared.words.Word.{Word}
 use Rattle.promises.specs.Board.{Content, word_in, with_word_in, Frame, Tenure, own_copy, read_in, claimed, snooped, State, line_of}
 use Rattle.promises.specs.Copies.{copy, keeps, owes}
 use Rattle.promises.specs.Steps.{updated, settled_state, settle_state, victim, victim_owes, memory_without_victim}
 use Rattle.promises.specs.OneMemory.{line_by_words}
-use Rattle.promises.proofs.Contents.{updated_same, updated_other, changed, changed_content, changed_other, unchanged_line}
+use Rattle.promises.proofs.Contents.{updated_other, changed, changed_content, changed_other, updated_back}
 use Rattle.promises.proofs.Frames.{kept_of, keeps_by}
-use Rattle.promises.proofs.Copies.{claiming, Copies, owes_same, not_kept_not_owing}
+use Rattle.promises.proofs.Copies.{claiming, Copies, owes_same, owns_keeps}
 use Rattle.promises.proofs.Tenures.{Hits, Reads, Claims}
 use Rattle.promises.proofs.Putting.{Put, put_copies}
 use Rattle.promises.proofs.InPlace.{claim_owes, changed_in_place}
 
 -- an operation that is no claim leaves the word
 pub unclaimed_word : (o : Operation) (x : Word) (v : ℕ) → claims o ≡ false → (done_by o x v).word ≡ x
-unclaimed_word (Read c true) x v e = absurd (both_ways true e refl)
-unclaimed_word (Read c false) x v e = refl
-unclaimed_word (Write c a) x v e = absurd (both_ways true e refl)
-unclaimed_word Clear x v e = absurd (both_ways true e refl)
+unclaimed_word o x v e = grind arith
 
 -- the words after a done operation on word w
 abbrev pub served : (ℕ → Word) → Operation → ℕ → ℕ → ℕ → Word
@@ -56,70 +53,30 @@ module _ (r : Rules) (law : Lawful r) (T : ℕ → Word) (s : State) (t : Tenure
   -- the frame's line, if it is another and kept
   out_kept : r.kept out.code ≡ true → keeps r s t.core out.line ≡ true
   out_kept k =
-      let place : out.line % 16 ≡ n % 16 = was.placed t.core (n % 16) k in
-      let same : copy s t.core out.line ≡ out = ap (s.frame t.core) place in
-      keeps_by r s t.core out.line (record { core = core; line = ap (λ (f : Frame). f.line) same; code = ap (λ (f : Frame). r.kept f.code) same ∙ k })
+      let place = was.placed t.core (n % 16) k in
+      keeps_by r s t.core out.line (record { core = core; line = grind (arith, place); code = grind (arith, place) })
 
   -- what memory holds once that line is written: every line that nobody else owes
   out_memory : (m : ℕ) → (m ≡ n → keeps r s t.core n ≡ true → ⊥) → ((d : ℕ) → ((d ≡ t.core) × (m % 16 ≡ n % 16) → ⊥) → owes r s d m ≡ false) → claiming s.bus m ≡ false → memory_without_victim r s t m ≡ line_by_words T m
   out_memory m own_not others quiet =
+      cond_both (victim_owes r s t) (updated s.memory out.line out.content) s.memory (λ (f : ℕ → Content). f m ≡ line_by_words T m)
+      (λ e.
+      let placed = was.placed t.core (n % 16) (grind arith) in
+      let kept = out_kept (grind arith) in
       ⊎_elim
-      (λ e.
-      let p = and_parts (not (eqb out.line n)) _ e in
-      let q = and_parts (r.kept out.code) _ p.1 in
-      let kept = out_kept q.0 in
-      ap (λ (f : ℕ → Content). f m) (cond-true _ _ s.memory e)
-      ∙ ⊎_elim
-      (λ same.
-      ap (updated s.memory out.line out.content) same
-      ∙ updated_same s.memory out.line out.content
-      ∙ sym (ap (λ j. (s.frame t.core j).content) (was.placed t.core (n % 16) q.0))
-      ∙ was.true_copies t.core out.line kept
-      ∙ ap (line_by_words T) (sym same))
-      (λ ne. updated_other s.memory out.line m out.content ne ∙ was.true_memory m (premise (λ k. ne (sym (held k)))) quiet)
+      (λ same. grind (arith, nat_tests, placed, was.true_copies t.core out.line kept))
+      (λ ne. updated_other s.memory out.line m out.content ne ∙ was.true_memory m (unowed (λ place k. absurd (ne (sym (held place k))))) quiet)
       (cases_eq m out.line))
-      (λ e.
-      ap (λ (f : ℕ → Content). f m) (cond-false _ _ s.memory e)
-      ∙ was.true_memory m (premise_by e) quiet)
-      (cases_Bool (victim_owes r s t))
+      (λ e. was.true_memory m (unowed (λ place k. grind (arith, nat_tests, e, own_not, held place k, kept_of r s t.core m k))) quiet)
     where
       -- at this frame the own core keeps no line but the frame's
-      held : (m % 16 ≡ n % 16) × (keeps r s t.core m ≡ true) → out.line ≡ m
-      held k = sym (ap (λ j. (s.frame t.core j).line) k.0) ∙ (kept_of r s t.core m k.1).line
+      held : m % 16 ≡ n % 16 → keeps r s t.core m ≡ true → out.line ≡ m
+      held place k = grind (arith, kept_of r s t.core m k)
 
-      premise : ((m % 16 ≡ n % 16) × (keeps r s t.core m ≡ true) → ⊥) → (d : ℕ) → owes r s d m ≡ false
-      premise never d =
+      unowed : (m % 16 ≡ n % 16 → keeps r s t.core m ≡ true → r.owing out.code ≡ false) → (d : ℕ) → owes r s d m ≡ false
+      unowed paid d =
           ⊎_elim
-          (λ same.
-          ⊎_elim (λ place. ap (λ x. owes r s x m) same ∙ not_kept_not_owing r s t.core m (λ k. never (place, k))) (λ apart. others d (λ both. apart both.1)) (cases_eq (m % 16) (n % 16)))
-          (λ ne. others d (λ both. ne both.0))
-          (cases_eq d t.core)
-
-      premise_by : victim_owes r s t ≡ false → (d : ℕ) → owes r s d m ≡ false
-      premise_by e d =
-          ⊎_elim
-          (λ same.
-          ⊎_elim
-          (λ place.
-          ap (λ x. owes r s x m) same
-          ∙ ⊎_elim
-          (λ k.
-          ⊎_elim (λ is. absurd (own_not is (ap (keeps r s t.core) (sym is) ∙ k)))
-          (λ ne.
-          let line = held (place, k) in
-          let kept : r.kept out.code ≡ true = sym (ap (λ j. r.kept (s.frame t.core j).code) place) ∙ (kept_of r s t.core m k).code in
-          let paid : r.owing out.code ≡ false =
-          ⊎_elim
-          (λ w. absurd (both_ways (victim_owes r s t) e (and_from (not (eqb out.line n)) _ (not_from_false _ (ne_eqb _ _ (λ z. ne (sym line ∙ z)))) (and_from (r.kept out.code) _ kept w))))
-          (λ w. w)
-          (cases_Bool (r.owing out.code))
-          in
-          and_right (keeps r s t.core m) _ (ap (λ j. r.owing (s.frame t.core j).code) place ∙ paid))
-          (cases_eq m n))
-          (λ no_copy. and_left (keeps r s t.core m) _ no_copy)
-          (cases_Bool (keeps r s t.core m)))
-          (λ apart. others d (λ both. apart both.1))
-          (cases_eq (m % 16) (n % 16)))
+          (λ same. ⊎_elim (λ place. grind (arith, paid place)) (λ apart. others d (λ both. apart both.1)) (cases_eq (m % 16) (n % 16)))
           (λ ne. others d (λ both. ne both.0))
           (cases_eq d t.core)
 
@@ -135,11 +92,10 @@ module _ (r : Rules) (law : Lawful r) (T : ℕ → Word) (s : State) (t : Tenure
     fetched_content = with_word_in f t.entry.word (done_by o (word_in f t.entry.word) t.entry.value).word
 
     fetched_frame : copy fetched_state t.core n ≡ record { code = fetched_code; line = n; content = fetched_content }
-    fetched_frame = cond-true _ _ _ (and_from _ _ (eq-eqb t.core t.core refl) (eq-eqb (n % 16) (n % 16) refl))
+    fetched_frame = grind (arith, nat_tests)
 
     fetched_other : (d m : ℕ) → ((d ≡ t.core) × (m % 16 ≡ n % 16) → ⊥) → copy fetched_state d m ≡ copy s d m
-    fetched_other d m apart =
-        ⊎_elim (λ e. cond-false _ _ _ (and_right _ _ (ne_eqb (m % 16) (n % 16) (λ g. apart (e, g))))) (λ ne. cond-false _ _ _ (and_left _ _ (ne_eqb d t.core ne))) (cases_eq d t.core)
+    fetched_other d m apart = grind (arith, nat_tests)
 
     abbrev Fetch : Type 0
     Fetch = Put r T T' s t.core n fetched_code fetched_content fetched_state
@@ -154,6 +110,9 @@ module _ (r : Rules) (law : Lawful r) (T : ℕ → Word) (s : State) (t : Tenure
         c : claims o ≡ false
         c = reads.read
 
+        same : T' ≡ T
+        same = updated_back T t.entry.word _ (unclaimed_word o (T t.entry.word) t.entry.value c)
+
         code : fetched_code ≡ r.read_fill shared
         code = cond-false _ _ _ c ∙ is
 
@@ -163,16 +122,11 @@ module _ (r : Rules) (law : Lawful r) (T : ℕ → Word) (s : State) (t : Tenure
           code_fits = rw (cond-false (claims o) r.own_claim fill c) fill_fits;
           true_content = changed_content T serve t.entry.word f line;
           other_lines = changed_other T serve t.entry.word;
-          shared_line = λ d ne k. unchanged_line T serve t.entry.word (unclaimed_word o (T t.entry.word) t.entry.value c);
-          only = λ e d ne k.
-              ⊎_elim
-              (λ sh. both_ways _ law.fill_not_sole (ap (λ b. r.sole (r.read_fill b)) (sym sh) ∙ sym (ap r.sole code) ∙ e))
-              (λ alone. reads.unshared alone d k)
-              (cases_Bool shared);
+          shared_line = λ d ne k. ap (λ X. line_by_words X n) same;
+          only = λ e d ne k. grind (arith, law.fill_not_sole, reads.unshared, d, k);
           no_owner = λ d ne own. reads.none_sole d own;
           true_memory = λ m none quiet.
-              out_memory m (λ e k. reads.own k) (others_paid m none) (ap (λ b. claiming b m) bus)
-              ∙ ⊎_elim (λ e. ap (line_by_words T) e ∙ sym (unchanged_line T serve t.entry.word (unclaimed_word o (T t.entry.word) t.entry.value c)) ∙ ap (line_by_words T') (sym e)) (λ ne. sym (changed_other T serve t.entry.word m ne)) (cases_eq m n);
+              out_memory m (λ e k. reads.own k) (others_paid m none) (ap (λ b. claiming b m) bus) ∙ ap (λ X. line_by_words X m) (sym same);
         }
 
     -- KIND 2
@@ -190,7 +144,7 @@ module _ (r : Rules) (law : Lawful r) (T : ℕ → Word) (s : State) (t : Tenure
           other_lines = changed_other T serve t.entry.word;
           shared_line = λ d ne k. absurd (taken.others d ne k);
           only = λ e d ne k. taken.others d ne k;
-          no_owner = λ d ne own. taken.others d ne (and_parts (keeps r s d n) _ own).0;
+          no_owner = λ d ne own. taken.others d ne (owns_keeps r s d n own);
           true_memory = λ m none quiet.
               ⊎_elim
               (λ e. absurd (both_ways _ (none t.core) (ap (owes r fetched_state t.core) e ∙ claim_owes r law fetched_state t.core n fetched_content core (fetched_frame ∙ ap (λ k. record { code = k; line = n; content = fetched_content }) (cond-true _ _ _ c)))))

@@ -1,21 +1,19 @@
 -- What a snooped tenure has found stays true, and a settle keeps copies and memory true.
-use Rattle.std.proofs.Common.{◌≡◌, ℕ, ◌%◌, Bool, true, false, not, eqb, sym, refl, ap, ◌∙◌, subst, ⊎_elim}
-use Rattle.std.proofs.lemmas.Bool.{cases_eq, cases_Bool, eq-eqb, ne_eqb, not-true, not_from_true, not_from_false, and_parts, and_from, and_left, and_right, or_cases, or_right, both_ways, cond-true, cond-false}
+use Rattle.std.proofs.Common.{◌≡◌, ℕ, Bool, true, false, not, eqb, sym, refl, ap, ◌∙◌, arith}
+use Rattle.std.proofs.lemmas.Bool.{ne_eqb, not_from_false, and_parts, and_from, and_left, both_ways, cond-false, cond_both}
 use Rattle.protocol.specs.Rules.{Rules, Lawful}
 use Rattle.tagged.specs.Operations.{claims, class_of}
 use Rattle.tagged.specs.Rule.{met, unmet_outcome}
-use Rattle.tagged.specs.declared.operations.Class.TheVariants.{Unconditional, Waiting, NonFaulting, Trapping}
 use Rattle.tagged.specs.declared.operations.Operation.{Operation}
-use Rattle.tagged.specs.declared.operations.Operation.TheVariants.{Read, Write, Clear}
 use Rattle.tagged.specs.declared.words.Word.{Word}
 use Rattle.tagged.specs.declared.words.WordState.{WordState}
-use Rattle.promises.specs.Board.{Content, word_in, Frame, Tenure, Found, own_copy, read_in, claimed, unmet, Bus, free, granted, snooped, State, line_of}
+use Rattle.promises.specs.Board.{Content, word_in, Tenure, Found, own_copy, read_in, claimed, unmet, Bus, free, granted, snooped, State, line_of}
 use Rattle.promises.specs.Copies.{copy, keeps, owns, others_keep, any_core, supplied, stands}
 use Rattle.promises.specs.Steps.{own_suffices, fetches, snoop_met, snoop_found, snoop_state}
 use Rattle.promises.specs.OneMemory.{line_by_words, is_done}
 use Rattle.promises.proofs.Contents.{line_word}
 use Rattle.promises.proofs.Frames.{kept_of, keeps_same, any_from}
-use Rattle.promises.proofs.Copies.{claiming, Copies, Fewer}
+use Rattle.promises.proofs.Copies.{claiming, Copies, Fewer, owns_keeps}
 use Rattle.promises.proofs.Standing.{TravelsTrue, stands_true, fetched_true}
 use Rattle.promises.proofs.Snooping as snooping
 
@@ -55,24 +53,11 @@ BusTrue r T s (granted t) = Unit {0}
 BusTrue r T s (snooped t f) = FoundTrue r T s t f
 
 pub travels_true : (r : Rules) (T : ℕ → Word) (s : State) (b : Bus) → BusTrue r T s b → TravelsTrue T b
-travels_true r T s free h = tt
-travels_true r T s (granted t) h = tt
-travels_true r T s (snooped t own_copy) h = tt
-travels_true r T s (snooped t (read_in shared f)) h = h.0.line
-travels_true r T s (snooped t (claimed f)) h = h.0.line
-travels_true r T s (snooped t (unmet o found)) h = tt
+travels_true r T s b h = grind arith
 
 -- an unmet operation is not done
 pub unmet_undone : (o : Operation) (x : WordState) → met o x ≡ false → is_done (unmet_outcome (class_of o)) ≡ false
-unmet_undone (Read Unconditional a) x e = absurd (both_ways true e refl)
-unmet_undone (Read Waiting a) x e = refl
-unmet_undone (Read NonFaulting a) x e = refl
-unmet_undone (Read Trapping a) x e = refl
-unmet_undone (Write Unconditional a) x e = absurd (both_ways true e refl)
-unmet_undone (Write Waiting a) x e = refl
-unmet_undone (Write NonFaulting a) x e = refl
-unmet_undone (Write Trapping a) x e = refl
-unmet_undone Clear x e = absurd (both_ways true e refl)
+unmet_undone o x e = grind arith
 
 -- the copies of line m are kept with the same codes in both states
 pub record Like (r : Rules) (s t : State) (m : ℕ) : Type 0 where
@@ -82,10 +67,7 @@ pub record Like (r : Rules) (s t : State) (m : ℕ) : Type 0 where
 -- what was found stays true where the line's copies, the line and the word's state stay
 module _ (r : Rules) (T T' : ℕ → Word) (s s' : State) (t : Tenure) (like : Like r s s' (line_of t.entry.word)) (line : line_by_words T' (line_of t.entry.word) ≡ line_by_words T (line_of t.entry.word)) (word : T' t.entry.word ≡ T t.entry.word) where
   owned : (d : ℕ) → owns r s' d (line_of t.entry.word) ≡ true → owns r s d (line_of t.entry.word) ≡ true
-  owned d e =
-      let p = and_parts (keeps r s' d (line_of t.entry.word)) _ e in
-      let k = sym (like.kept d) ∙ p.0 in
-      and_from (keeps r s d (line_of t.entry.word)) _ k (sym (ap r.sole (like.code d k)) ∙ p.1)
+  owned d e = grind (arith, like.kept d, like.code d)
 
   still_met : Met T t → Met T' t
   still_met m = ap (λ (x : Word). met t.entry.operation x.state) word ∙ m
@@ -135,66 +117,46 @@ module _ (r : Rules) (law : Lawful r) (T : ℕ → Word) (s : State) (t : Tenure
   still : fetches r s t ≡ false → (d m : ℕ) → copy after d m ≡ copy s d m
   still e d m = cond-false _ _ _ (and_left (fetches r s t) _ e)
 
-  -- the requester's own frame does not move
-  own_still : (m : ℕ) → copy after t.core m ≡ copy s t.core m
-  own_still m = cond-false _ _ _ (and_right (fetches r s t) _ (and_right (eqb (m % 16) (n % 16)) _ (and_left (not (eqb t.core t.core)) _ (not_from_true _ (eq-eqb t.core t.core refl)))))
-
   abbrev fewer : Fewer r s after
   fewer = snooping.snoop_fewer r law T s t was
 
   hits : own_suffices r s t ≡ true → fetches r s t ≡ false → Hits r after t
   hits e f =
-      let p = and_parts (keeps r s t.core n) _ e in
       let same = still f t.core n in
-      record {
-        kept = keeps_same r after s t.core n same ∙ p.0;
-        sole = λ c. ap (λ (x : Frame). r.sole x.code) same ∙ ⊎_elim (λ z. absurd (both_ways _ (not_from_true _ c) z)) (λ z. z) (or_cases _ _ p.1);
-      }
+      record { kept = grind (arith, keeps_same r after s t.core n same); sole = λ c. grind arith }
 
   reads : fetches r s t ≡ true → claims t.entry.operation ≡ false → Reads r T after t (any_core (others_keep r s t.core n)) (supplied r s n (s.memory n))
   reads f c =
-      let own_not = snooping.read_own r law T s t was f c in
+      let apart : (d : ℕ) → keeps r s d n ≡ true → d ≡ t.core → ⊥ = λ d k same. both_ways _ (snooping.read_own r law T s t was f c) (ap (λ x. keeps r s x n) (sym same) ∙ k) in
       record {
         line = fetched_true r T s was n (quiet n);
-        own = λ k. both_ways _ own_not (fewer.kept t.core n k);
+        own = λ k. apart t.core (fewer.kept t.core n k) refl;
         none_sole = λ d own.
-            let old = and_parts (keeps r s d n) _ (fewer.sole d n own) in
-            let k = and_parts (keeps r after d n) _ own in
-            ⊎_elim (λ same. both_ways _ own_not (ap (λ x. keeps r s x n) (sym same) ∙ old.0))
-            (λ ne. snooping.heard_not_sole r law T s t was d f c ne old.0 k.1)
-            (cases_eq d t.core);
+            let old = owns_keeps r s d n (fewer.sole d n own) in
+            snooping.heard_not_sole r law T s t was d f c (apart d old) old (and_parts (keeps r after d n) _ own).1;
         unshared = λ none d k.
             let old = fewer.kept d n k in
-            ⊎_elim (λ same. both_ways _ own_not (ap (λ x. keeps r s x n) (sym same) ∙ old))
-            (λ ne. both_ways _ none (any_from (others_keep r s t.core n) d (kept_of r s d n old).core (and_from (not (eqb d t.core)) _ (not_from_false _ (ne_eqb _ _ ne)) old)))
-            (cases_eq d t.core);
+            both_ways _ none (any_from (others_keep r s t.core n) d (kept_of r s d n old).core (and_from (not (eqb d t.core)) _ (not_from_false _ (ne_eqb _ _ (apart d old))) old));
         read = c;
       }
 
   takes : fetches r s t ≡ true → claims t.entry.operation ≡ true → Claims r T after t (supplied r s n (s.memory n))
   takes f c =
-      let unfit = not-true (own_suffices r s t) (and_parts (snoop_met r s t) _ f).1 in
+      let unfit : own_suffices r s t ≡ false = grind arith in
       record {
         line = fetched_true r T s was n (quiet n);
         others = λ d ne k. snooping.heard_not_kept r law T s t was d f c ne (fewer.kept d n k) k;
-        own = λ o.
-            let p = and_parts (keeps r s t.core n) _ (fewer.sole t.core n o) in
-            both_ways _ unfit (and_from (keeps r s t.core n) _ p.0 (or_right _ _ p.1));
+        own = λ o. grind (arith, unfit, fewer.sole t.core n o);
         claim = c;
       }
 
   pub snoop_finds : FoundTrue r T after t (snoop_found r s t)
   snoop_finds =
-      ⊎_elim
+      cond_both (snoop_met r s t) _ _ (FoundTrue r T after t)
       (λ m.
-      ⊎_elim
-      (λ e. subst (FoundTrue r T after t) (sym (cond-true _ _ _ m ∙ cond-true _ _ _ e)) (hits e (and_right (snoop_met r s t) _ (not_from_true _ e)), is_met m))
+      cond_both (own_suffices r s t) _ _ (FoundTrue r T after t)
+      (λ e. (hits e (grind arith), is_met m))
       (λ e.
-      let f = and_from (snoop_met r s t) _ m (not_from_false _ e) in
-      ⊎_elim
-      (λ c. subst (FoundTrue r T after t) (sym (cond-true _ _ _ m ∙ cond-false _ _ _ e ∙ cond-true _ _ _ c)) (takes f c, is_met m))
-      (λ c. subst (FoundTrue r T after t) (sym (cond-true _ _ _ m ∙ cond-false _ _ _ e ∙ cond-false _ _ _ c)) (reads f c, is_met m))
-      (cases_Bool (claims t.entry.operation)))
-      (cases_Bool (own_suffices r s t)))
-      (λ m. subst (FoundTrue r T after t) (sym (cond-false _ _ _ m)) (unmet_undone t.entry.operation _ m))
-      (cases_Bool (snoop_met r s t))
+      let f : fetches r s t ≡ true = grind arith in
+      cond_both (claims t.entry.operation) _ _ (FoundTrue r T after t) (λ c. (takes f c, is_met m)) (λ c. (reads f c, is_met m))))
+      (λ m. unmet_undone t.entry.operation _ m)
