@@ -1,6 +1,6 @@
 -- Issue.
-use Rattle.std.proofs.Common.{◌≡◌, ℕ, ◌+◌, ◌%◌, ◌<◌, Bool, true, false, cond, not, ◌&&◌, ◌⊎◌, Some, Ok, sym, refl, ap, ◌∙◌, subst, ⊎_elim, arith}
-use Rattle.std.proofs.lemmas.Bool.{cases_eq, cases_Bool, not-true, not_from_true, and_parts, and_from, and_cases, or_cases, both_ways, cond-true, cond-false}
+use Rattle.std.proofs.Common.{◌≡◌, ℕ, ◌+◌, ◌%◌, Bool, true, false, cond, not, ◌&&◌, ◌⊎◌, Some, Ok, sym, refl, ap, ◌∙◌, subst, ⊎_elim, arith}
+use Rattle.std.proofs.lemmas.Bool.{cases_eq, cases_Bool, not-true, and_parts, and_from, both_ways, cond-true, cond-false, false_from_ne_true, cond_both}
 use Rattle.protocol.specs.Rules.{Rules, Lawful}
 use Rattle.tagged.specs.declared.answers.Answer.{Answer}
 use Rattle.tagged.specs.declared.operations.Operation.{Operation}
@@ -11,15 +11,14 @@ use Rattle.tagged.specs.Rule.{met, rule}
 use Rattle.tagged.specs.Operations.{claims, class_of, operation_coded}
 use Rattle.tagged.specs.Rule.{unmet_outcome}
 use Rattle.tagged.specs.declared.operations.Class.{Class}
-use Rattle.tagged.specs.declared.operations.Class.TheVariants.{Unconditional, Waiting, NonFaulting, Trapping}
 use Rattle.promises.specs.Board.{word_in, with_word_in}
 use Rattle.promises.specs.Calls.{OrRefused, issue}
 use Rattle.promises.specs.Copies.{copy, keeps, owns}
 use Rattle.promises.specs.Lists.{on_word, any_entry, wake}
-use Rattle.promises.specs.Steps.{Step, updated, gives_up, own_word, own_met, in_reach, answers_now, issue_served, issue_now, issue_later, issue_answer, issue_refusal}
+use Rattle.promises.specs.Steps.{Step, gives_up, own_word, own_met, in_reach, answers_now, issue_served, issue_now, issue_later, issue_answer, issue_refusal}
 use Rattle.promises.specs.OneMemory.{TaggedMemory, note, serve_noted, decide, is_answer, feed, line_by_words}
 use Rattle.promises.specs.Promises.{EveryEntry}
-use Rattle.promises.proofs.Contents.{updated_same, updated_other, updated_back, line_word, changed, changed_other}
+use Rattle.promises.proofs.Contents.{updated_same, updated_other, updated_back, updated_each, line_word, changed, changed_other}
 use Rattle.promises.proofs.Frames.{kept_of, keeps_by, keeps_same, frame_cases}
 use Rattle.promises.proofs.Copies.{Copies, one_line}
 use Rattle.promises.proofs.Entries.{Present, present_wake, present_append, present_on_word, every_map, every_append, every_weaker}
@@ -30,15 +29,11 @@ use Rattle.promises.proofs.OnBus.{bus_kept}
 use Rattle.promises.proofs.OnSettle.{noted_wake}
 use Rattle.promises.proofs.OnSnoop.{unmet_word}
 use Rattle.promises.proofs.Sleeping.{SleepsRight, woken_right, rule_tells}
-use Rattle.promises.proofs.Sound.{Noted, WaitsIn, TenureWaits, Sound, same_frames, step_sound}
+use Rattle.promises.proofs.Sound.{Noted, WaitsIn, TenureWaits, Sound, same_frames, by_reply}
 
 -- an operation that is unmet, or no claim, leaves the word
 pub rule_stays : (o : Operation) (x : Word) (v : ℕ) → (met o x.state && claims o) ≡ false → (rule o x v).word ≡ x
-rule_stays o x v e =
-    ⊎_elim
-    (λ y. ap (λ (z : Served). z.word) (cond-true (met o x.state) _ _ y) ∙ unclaimed_word o x v (⊎_elim (λ f. absurd (both_ways _ f y)) (λ f. f) (and_cases (met o x.state) _ e)))
-    (λ n. unmet_word o x v n)
-    (cases_Bool (met o x.state))
+rule_stays o x v e = grind (arith, unclaimed_word o x v, unmet_word o x v)
 
 module _ (r : Rules) (law : Lawful r) (m : TaggedMemory) (s : State) (was : Sound r m s) (c : ℕ) (o : Operation) (w v : ℕ) where
   abbrev T : ℕ → Word
@@ -56,11 +51,7 @@ module _ (r : Rules) (law : Lawful r) (m : TaggedMemory) (s : State) (was : Soun
   later_present : (t : Tenure) → WaitsIn s t → WaitsIn (issue_later r s c o w v) t
   later_present t h = record {
     core = h.core;
-    present =
-        ⊎_elim
-        (λ same. subst (Present t.entry) (sym (ap (updated s.waiting c _) same ∙ updated_same s.waiting c _)) (present_append t.entry (s.waiting c) _ (subst (λ d. Present t.entry (s.waiting d)) same h.present)))
-        (λ ne. subst (Present t.entry) (sym (updated_other s.waiting c t.core _ ne)) h.present)
-        (cases_eq t.core c);
+    present = updated_each (λ _. Present t.entry) s.waiting c _ (present_append t.entry _ _) t.core h.present;
   }
 
   later_tenure : (b : Bus) → TenureWaits s b → TenureWaits (issue_later r s c o w v) b
@@ -72,8 +63,8 @@ module _ (r : Rules) (law : Lawful r) (m : TaggedMemory) (s : State) (was : Soun
   new_sleeper : (in_reach r s c o w v && not (own_met r s c o w v)) ≡ true → met o (T w).state ≡ false
   new_sleeper e =
       let p = and_parts (in_reach r s c o w v) _ e in
-      let kept = (and_parts (not (any_entry (on_word w) (s.waiting c))) _ p.0).1 in
-      sym (ap (λ f. met o (word_in f w).state) (was.copies.true_copies c (line_of w) kept) ∙ ap (λ (x : Word). met o x.state) (line_word T w)) ∙ not-true _ p.1
+      let kept : keeps r s c (line_of w) ≡ true = (and_parts (not (any_entry (on_word w) (s.waiting c))) _ p.0).1 in
+      grind (arith, was.copies.true_copies c (line_of w) kept, line_word T w)
 
   later_sound : Sound r noting (issue_later r s c o w v)
   later_sound = record {
@@ -81,21 +72,11 @@ module _ (r : Rules) (law : Lawful r) (m : TaggedMemory) (s : State) (was : Soun
     copies = same_frames r T s (issue_later r s c o w v) (λ d i. refl) (λ n. refl) (λ n e. e) was.copies;
     bus = bus_kept r T s (issue_later r s c o w v) (λ d i. refl) s.bus was.bus;
     notes = λ d.
-        ⊎_elim
-        (λ same.
-        subst (EveryEntry (Noted noting (s.next + 1) d)) (sym (ap (updated s.waiting c _) same ∙ updated_same s.waiting c _))
-        (every_append (Noted noting (s.next + 1) d) (s.waiting c) _ (every_weaker _ _ (old_note d) (s.waiting c) (subst (λ x. EveryEntry (Noted m s.next d) (s.waiting x)) same (was.notes d)))
-        (record { note = updated_same m.noted s.next _ ∙ ap (λ x. Some (record { core = x; operation = o; word = w; value = v })) (sym same); below = omega arith })))
-        (λ ne. subst (EveryEntry (Noted noting (s.next + 1) d)) (sym (updated_other s.waiting c d _ ne)) (every_weaker _ _ (old_note d) (s.waiting d) (was.notes d)))
-        (cases_eq d c);
+        updated_each (λ i. EveryEntry (Noted noting (s.next + 1) i)) s.waiting c _
+        (λ h. every_append _ (s.waiting c) _ h (record { note = updated_same m.noted s.next _; below = omega arith }))
+        d (every_weaker _ _ (old_note d) (s.waiting d) (was.notes d));
     tenure = later_tenure s.bus was.tenure;
-    sleepers = λ d.
-        ⊎_elim
-        (λ same.
-        subst (EveryEntry (SleepsRight T)) (sym (ap (updated s.waiting c _) same ∙ updated_same s.waiting c _))
-        (every_append (SleepsRight T) (s.waiting c) _ (was.sleepers c) new_sleeper))
-        (λ ne. subst (EveryEntry (SleepsRight T)) (sym (updated_other s.waiting c d _ ne)) (was.sleepers d))
-        (cases_eq d c);
+    sleepers = λ d. updated_each (λ _. EveryEntry (SleepsRight T)) s.waiting c _ (λ h. every_append _ (s.waiting c) _ h new_sleeper) d (was.sleepers d);
   }
 
   -- NOW: the request is served at the own copy
@@ -123,10 +104,7 @@ module _ (r : Rules) (law : Lawful r) (m : TaggedMemory) (s : State) (was : Soun
     own_is = ap (λ f. word_in f w) (was.copies.true_copies c n kept) ∙ line_word T w
 
     sole : claim ≡ true → r.sole (copy s c n).code ≡ true
-    sole e =
-        let p = and_parts (own_met r s c o w v) _ e in
-        let q = sym (cond-true _ _ _ p.0) ∙ (and_parts (in_reach r s c o w v) _ now).1 in
-        ⊎_elim (λ z. absurd (both_ways _ (not_from_true _ p.1) z)) (λ z. z) (or_cases (not (claims o)) _ q)
+    sole e = grind (arith, now)
 
     stays : claim ≡ false → g (T w) ≡ T w
     stays e = rule_stays o (T w) v (ap (λ (x : Word). met o x.state && claims o) (sym own_is) ∙ e)
@@ -163,13 +141,13 @@ module _ (r : Rules) (law : Lawful r) (m : TaggedMemory) (s : State) (was : Soun
         at_place d p =
             ⊎_elim
             (λ same.
-            let code : (copy after d x).code ≡ (copy s c n).code = ap (λ (f : Frame). f.code) p.2 ∙ cond-false _ _ _ (other same) in
-            let own_kept = kept_of r s c n kept in
-            keeps_by r after d x (record { core = subst (λ y. y < 8) (sym p.0) own_kept.core; line = ap (λ (f : Frame). f.line) p.2 ∙ own_kept.line ∙ sym same; code = ap r.kept code ∙ own_kept.code })
-            ∙ sym (ap (λ y. keeps r s y x) p.0 ∙ ap (keeps r s c) same ∙ kept))
+            let own = kept_of r s c n kept in
+            let code : r.kept (copy after d x).code ≡ true = grind (arith, other same, own.code) in
+            let still = keeps_by r after d x (record { core = grind (arith, own.core); line = grind (arith, own.line); code = code }) in
+            grind arith)
             (λ ne.
-            let before : keeps r s d x ≡ false = ⊎_elim (λ k. absurd (ne (line_same d p k))) (λ e. e) (cases_Bool (keeps r s d x)) in
-            let afterwards : keeps r after d x ≡ false = ⊎_elim (λ k. absurd (ne (sym (kept_of r after d x k).line ∙ ap (λ (f : Frame). f.line) p.2 ∙ (kept_of r s c n kept).line))) (λ e. e) (cases_Bool (keeps r after d x)) in
+            let before : keeps r s d x ≡ false = false_from_ne_true _ (λ k. ne (line_same d p k)) in
+            let afterwards : keeps r after d x ≡ false = false_from_ne_true _ (λ k. ne (sym (kept_of r after d x k).line ∙ ap (λ (f : Frame). f.line) p.2 ∙ (kept_of r s c n kept).line)) in
             afterwards ∙ sym before)
             (cases_eq x n)
 
@@ -241,16 +219,11 @@ module _ (r : Rules) (law : Lawful r) (m : TaggedMemory) (s : State) (was : Soun
     -- an issue that answers at once answers for good
     pub answers : is_answer (issue_served r s c o w v).outcome ≡ true
     answers =
-        ⊎_elim
-        (λ y. ap (λ (x : Served). is_answer x.outcome) (cond-true _ _ _ y))
-        (λ z. ap (λ (x : Served). is_answer x.outcome) (cond-false _ _ _ z) ∙ gives_up_answers (class_of o) (sym (cond-false _ _ _ z) ∙ (and_parts (in_reach r s c o w v) _ now).1))
-        (cases_Bool (own_met r s c o w v))
+        cond_both (own_met r s c o w v) _ _ (λ (x : Served). is_answer x.outcome ≡ true) (λ y. refl)
+        (λ z. gives_up_answers (class_of o) (sym (cond-false _ _ _ z) ∙ (and_parts (in_reach r s c o w v) _ now).1))
       where
         gives_up_answers : (k : Class) → gives_up k ≡ true → is_answer (unmet_outcome k) ≡ true
-        gives_up_answers Unconditional e = refl
-        gives_up_answers Waiting e = absurd (both_ways false refl e)
-        gives_up_answers NonFaulting e = refl
-        gives_up_answers Trapping e = refl
+        gives_up_answers k e = grind arith
 
 module _ (r : Rules) (law : Lawful r) (m : TaggedMemory) (s : State) (was : Sound r m s) where
   issued : (c k w v : ℕ) → Sound r (feed m (issue c k w v (Ok (issue_answer r s c (operation_coded k) w v)))) (cond (answers_now r s c (operation_coded k) w v) (issue_now r s c (operation_coded k) w v) (issue_later r s c (operation_coded k) w v))
@@ -264,4 +237,4 @@ module _ (r : Rules) (law : Lawful r) (m : TaggedMemory) (s : State) (was : Soun
       by_cond false x y p q P f g = g refl
 
   pub issue_sound : (c k w v : ℕ) (a : OrRefused Answer) (t : State) → Step r s (issue c k w v a) t → Sound r (feed m (issue c k w v a)) t
-  issue_sound c k w v a t step = step_sound r m s t _ (issue c k w v) (issue_refusal r s c k w v) _ a step.0 step.1 was (λ e. refl) (λ none. issued c k w v)
+  issue_sound c k w v a t step = by_reply (λ b u. Sound r (feed m (issue c k w v b)) u) s t _ (issue_refusal r s c k w v) _ a step.0 step.1 (λ e. was) (λ none. issued c k w v)

@@ -1,30 +1,29 @@
 -- Settle.
-use Rattle.std.proofs.Common.{◌≡◌, ℕ, ◌≤◌, true, false, eqb, List, [], ◌∷◌, map, Some, None, Ok, Option, sym, refl, ap, ◌∙◌, subst, ⊎_elim}
-use Rattle.std.proofs.lemmas.Bool.{cases_eq, cases_Bool, not-false, and_parts, both_ways, cond-true, cond-false}
+use Rattle.std.proofs.Common.{◌≡◌, ℕ, ◌≤◌, List, map, Some, Ok, Option, sym, refl, ap, ◌∙◌, subst}
+use Rattle.std.proofs.lemmas.Bool.{cond-true, cond-false, cond_both}
 use Rattle.protocol.specs.Rules.{Rules, Lawful}
 use Rattle.tagged.specs.declared.answers.Answer.{Answer}
 use Rattle.tagged.specs.declared.answers.Notice.{Notice}
 use Rattle.tagged.specs.declared.rule.Served.{Served}
-use Rattle.promises.specs.Board.{Content, Entry, Tenure, Found, own_copy, read_in, claimed, unmet, Bus, free, granted, snooped, State, line_of}
+use Rattle.promises.specs.Board.{Content, Entry, Tenure, Found, own_copy, read_in, claimed, unmet, free, snooped, State, line_of}
 use Rattle.tagged.specs.Rule.{met, done_by}
 use Rattle.promises.specs.Board.{word_in}
-use Rattle.promises.specs.Calls.{to_settle, Slip, OrRefused, settle}
-use Rattle.promises.specs.Lists.{without, wake}
-use Rattle.promises.specs.Refusing.{first_reason, same_stage, bus_at, of_tenure, slip_reasons}
-use Rattle.promises.specs.Steps.{Agree, Step, updated, is_waits, settle_state, settle_answer, settle_on, settle_to}
+use Rattle.promises.specs.Calls.{Slip, OrRefused, settle}
+use Rattle.promises.specs.Lists.{without, wakes, wake}
+use Rattle.promises.specs.Steps.{Step, updated, is_waits, settle_state, settle_answer}
 use Rattle.promises.specs.OneMemory.{TaggedMemory, serve_noted, decide, is_done, feed, line_by_words}
 use Rattle.promises.specs.Promises.{EveryEntry}
-use Rattle.promises.proofs.Contents.{updated_same, updated_other, line_word}
+use Rattle.promises.proofs.Contents.{updated_each, line_word}
 use Rattle.promises.proofs.Sleeping.{SleepsRight, woken_right}
 use Rattle.promises.proofs.Copies.{claiming, Copies}
-use Rattle.promises.proofs.Entries.{wake_cases, every_map, every_without}
+use Rattle.promises.proofs.Entries.{every_map, every_weaker, every_without}
 use Rattle.promises.proofs.Tenures.{Met, FoundTrue, BusTrue}
 use Rattle.promises.proofs.Settling.{served, settle_hit, settle_read, settle_claim}
-use Rattle.promises.proofs.Sound.{Noted, WaitsIn, TenureWaits, Sound, same_frames, tenure_noted, cleared, step_sound, refused_sound}
+use Rattle.promises.proofs.Sound.{Noted, WaitsIn, TenureWaits, Sound, same_frames, tenure_noted, by_settle}
 
 -- a note stays true of a request that wakes
 pub noted_wake : (m : TaggedMemory) (next c : ℕ) (n : Option Notice) (w : ℕ) (e : Entry) → Noted m next c e → Noted m next c (wake n w e)
-noted_wake m next c n w e h = ⊎_elim (λ p. subst (Noted m next c) (sym p.1) (record { note = h.note; below = h.below })) (λ p. subst (Noted m next c) (sym p.1) h) (wake_cases n w e)
+noted_wake m next c n w e h = cond_both (wakes n w e) _ _ (Noted m next c) (λ t. record { note = h.note; below = h.below }) (λ f. h)
 
 module _ (r : Rules) (law : Lawful r) (m : TaggedMemory) (s : State) (was : Sound r m s) (slip : Slip) where
   module _ (t : Tenure) (f : Found) (bus : s.bus ≡ snooped t f) where
@@ -39,18 +38,10 @@ module _ (r : Rules) (law : Lawful r) (m : TaggedMemory) (s : State) (was : Soun
 
     -- the lists without the request keep their notes
     rest_noted : (c : ℕ) → EveryEntry (Noted m s.next c) (updated s.waiting t.core (without t.entry.number (s.waiting t.core)) c)
-    rest_noted c =
-        ⊎_elim
-        (λ same. subst (EveryEntry (Noted m s.next c)) (sym (ap (updated s.waiting t.core (without t.entry.number (s.waiting t.core))) same ∙ updated_same s.waiting t.core _)) (every_without (Noted m s.next c) t.entry.number (s.waiting t.core) (subst (λ d. EveryEntry (Noted m s.next c) (s.waiting d)) same (was.notes c))))
-        (λ ne. subst (EveryEntry (Noted m s.next c)) (sym (updated_other s.waiting t.core c _ ne)) (was.notes c))
-        (cases_eq c t.core)
+    rest_noted c = updated_each (λ d. EveryEntry (Noted m s.next d)) s.waiting t.core _ (every_without _ t.entry.number _) c (was.notes c)
 
     rest_asleep : (c : ℕ) → EveryEntry (SleepsRight m.word) (updated s.waiting t.core (without t.entry.number (s.waiting t.core)) c)
-    rest_asleep c =
-        ⊎_elim
-        (λ same. subst (EveryEntry (SleepsRight m.word)) (sym (ap (updated s.waiting t.core (without t.entry.number (s.waiting t.core))) same ∙ updated_same s.waiting t.core _)) (every_without (SleepsRight m.word) t.entry.number (s.waiting t.core) (was.sleepers t.core)))
-        (λ ne. subst (EveryEntry (SleepsRight m.word)) (sym (updated_other s.waiting t.core c _ ne)) (was.sleepers c))
-        (cases_eq c t.core)
+    rest_asleep c = updated_each (λ _. EveryEntry (SleepsRight m.word)) s.waiting t.core _ (every_without _ t.entry.number _) c (was.sleepers c)
 
     -- the notice wakes whom the done operation lets go on
     done_asleep : (before : Content) → before ≡ line_by_words m.word (line_of t.entry.word) → (c : ℕ) → EveryEntry (SleepsRight (served m.word t.entry.operation t.entry.word t.entry.value)) (map (wake (done_by t.entry.operation (word_in before t.entry.word) t.entry.value).notice t.entry.word) (updated s.waiting t.core (without t.entry.number (s.waiting t.core)) c))
@@ -74,14 +65,10 @@ module _ (r : Rules) (law : Lawful r) (m : TaggedMemory) (s : State) (was : Soun
       few_cores = subst (λ x. x.cores ≤ 8) (sym setup) was.few_cores;
       copies = subst (λ T. Copies r T after) (sym (served_word is)) copies;
       bus = subst (BusTrue r (decide m t.entry.number).word after) (sym quiet) tt;
-      notes = λ c. subst (λ x. EveryEntry (Noted (decide m t.entry.number) x c) (after.waiting c)) (sym next) (every_again c (after.waiting c) (lists c));
+      notes = λ c. subst (λ x. EveryEntry (Noted (decide m t.entry.number) x c) (after.waiting c)) (sym next) (every_weaker (Noted m s.next c) (Noted (decide m t.entry.number) s.next c) (λ e h. record { note = ap (λ x. x e.number) served_noted ∙ h.note; below = h.below }) (after.waiting c) (lists c));
       tenure = subst (TenureWaits after) (sym quiet) tt;
       sleepers = λ c. subst (λ T. EveryEntry (SleepsRight T) (after.waiting c)) (sym (served_word is)) (asleep c);
     }
-      where
-        every_again : (c : ℕ) (es : List Entry) → EveryEntry (Noted m s.next c) es → EveryEntry (Noted (decide m t.entry.number) s.next c) es
-        every_again c [] h = tt
-        every_again c (e ∷ es) h = (record { note = ap (λ x. x e.number) served_noted ∙ h.0.note; below = h.0.below }, every_again c es h.1)
 
   -- what the bus had found decides what a settle leaves
   settled : (t : Tenure) (f : Found) → s.bus ≡ snooped t f → Sound r (feed m (settle slip (Ok (settle_answer r s t f)))) (settle_state r s t f)
@@ -106,26 +93,10 @@ module _ (r : Rules) (law : Lawful r) (m : TaggedMemory) (s : State) (was : Soun
         few_cores = was.few_cores;
         copies = same_frames r m.word s (settle_state r s t (unmet o x)) (λ d i. refl) (λ n. refl) (λ n q. ap (λ b. claiming b n) bus) was.copies;
         bus = tt;
-        notes = λ c.
-            ⊎_elim
-            (λ e. subst (λ (g : ℕ → List Entry). EveryEntry (Noted m s.next c) (g c)) (sym (cond-true (is_waits s t o o) s.waiting _ e)) (was.notes c))
-            (λ e. subst (λ (g : ℕ → List Entry). EveryEntry (Noted m s.next c) (g c)) (sym (cond-false (is_waits s t o o) s.waiting _ e)) (rest_noted t (unmet o x) bus c))
-            (cases_Bool (is_waits s t o o));
+        notes = λ c. cond_both (is_waits s t o o) s.waiting _ (λ (g : ℕ → List Entry). EveryEntry (Noted m s.next c) (g c)) (λ _. was.notes c) (λ _. rest_noted t (unmet o x) bus c);
         tenure = tt;
-        sleepers = λ c.
-            ⊎_elim
-            (λ e. subst (λ (g : ℕ → List Entry). EveryEntry (SleepsRight m.word) (g c)) (sym (cond-true (is_waits s t o o) s.waiting _ e)) (was.sleepers c))
-            (λ e. subst (λ (g : ℕ → List Entry). EveryEntry (SleepsRight m.word) (g c)) (sym (cond-false (is_waits s t o o) s.waiting _ e)) (rest_asleep t (unmet o x) bus c))
-            (cases_Bool (is_waits s t o o));
+        sleepers = λ c. cond_both (is_waits s t o o) s.waiting _ (λ (g : ℕ → List Entry). EveryEntry (SleepsRight m.word) (g c)) (λ _. was.sleepers c) (λ _. rest_asleep t (unmet o x) bus c);
       })
 
-  mine : first_reason (slip_reasons s slip to_settle) ≡ None → bus_at s.bus to_settle slip.number ≡ true
-  mine none = (and_parts (eqb slip.board s.setup.board) _ (and_parts (same_stage slip.stage to_settle) _ (not-false (of_tenure s slip to_settle) (cleared (slip_reasons s slip to_settle) none).0)).1).1
-
-  by_bus : (b : Bus) → s.bus ≡ b → (a : OrRefused Answer) (t : State) → a ≡ settle_on r s slip b → Agree t (settle_to r s slip b) → Sound r (feed m (settle slip a)) t
-  by_bus free bus a t is agree = refused_sound r m s t (settle slip) (first_reason (slip_reasons s slip to_settle)) _ a is agree was (λ e. refl) (λ none. both_ways false refl (sym (ap (λ b. bus_at b to_settle slip.number) bus) ∙ mine none))
-  by_bus (granted x) bus a t is agree = refused_sound r m s t (settle slip) (first_reason (slip_reasons s slip to_settle)) _ a is agree was (λ e. refl) (λ none. both_ways false refl (sym (ap (λ b. bus_at b to_settle slip.number) bus) ∙ mine none))
-  by_bus (snooped x f) bus a t is agree = step_sound r m s t (settle_state r s x f) (settle slip) (first_reason (slip_reasons s slip to_settle)) _ a is agree was (λ e. refl) (λ none. settled x f bus)
-
   pub settle_sound : (a : OrRefused Answer) (t : State) → Step r s (settle slip a) t → Sound r (feed m (settle slip a)) t
-  settle_sound a t step = by_bus s.bus refl a t step.0 step.1
+  settle_sound a t step = by_settle (λ b u. Sound r (feed m (settle slip b)) u) r s t slip a step (λ e. was) settled

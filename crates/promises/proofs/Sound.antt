@@ -1,14 +1,15 @@
 -- What every run keeps of copies, bus and lists, beside the one tagged memory m.
-use Rattle.std.proofs.Common.{◌≡◌, ℕ, ◌%◌, ◌<◌, ◌≤◌, true, false, [], ◌∷◌, Some, None, Ok, Err, Option, sym, refl, ap, ◌∙◌, subst, ⊎_elim, arith}
-use Rattle.std.proofs.lemmas.Bool.{cases_Bool, cond-true, cond-false}
+use Rattle.std.proofs.Common.{◌≡◌, ℕ, ◌%◌, ◌<◌, ◌≤◌, true, false, [], ◌∷◌, Some, None, Ok, Err, Option, sym, refl, ap, ◌∙◌, subst, arith}
+use Rattle.std.proofs.lemmas.Bool.{eqb-true, both_ways}
 use Rattle.protocol.specs.Rules.{Rules}
 use Rattle.tagged.specs.declared.refusals.Refusal.{Refusal}
 use Rattle.tagged.specs.declared.words.Word.{Word}
-use Rattle.promises.specs.Board.{Frame, Entry, Tenure, Bus, free, granted, snooped, State}
-use Rattle.promises.specs.Calls.{OrRefused, Call}
-use Rattle.promises.specs.Refusing.{Reasons, first_reason, reply_unless, after_unless}
-use Rattle.promises.specs.Steps.{Agree}
-use Rattle.promises.specs.OneMemory.{Note, TaggedMemory, feed}
+use Rattle.tagged.specs.declared.answers.Answer.{Answer}
+use Rattle.promises.specs.Board.{Frame, Entry, Tenure, Found, Bus, free, granted, snooped, State}
+use Rattle.promises.specs.Calls.{Stage, to_snoop, to_settle, Slip, SnoopReport, OrRefused, snoop, settle}
+use Rattle.promises.specs.Refusing.{Reasons, first_reason, reply_unless, after_unless, bus_at, slip_reasons}
+use Rattle.promises.specs.Steps.{Agree, Step, snoop_report, snoop_state, snoop_on, snoop_to, settle_answer, settle_state, settle_on, settle_to}
+use Rattle.promises.specs.OneMemory.{Note, TaggedMemory}
 use Rattle.promises.specs.Promises.{EveryEntry}
 use Rattle.promises.proofs.Frames.{keeps_same, same_state_as}
 use Rattle.promises.proofs.Copies.{claiming, Copies, owes_same, owns_same}
@@ -83,23 +84,48 @@ AllClear (p ∷ ps) = (p.1 ≡ false) × AllClear ps
 -- a call that is not refused meets no reason
 pub cleared : (ps : Reasons) → first_reason ps ≡ None → AllClear ps
 cleared [] e = tt
-cleared (p ∷ ps) e =
-    ⊎_elim
-    (λ t. absurd (let z : ◌≡◌ {A = Option Refusal} (Some p.0) None = sym (cond-true _ _ _ t) ∙ e in let y : ◌≡◌ {A = ℕ} 0 1 = cc in omega arith))
-    (λ f. (f, cleared ps (sym (cond-false _ _ _ f) ∙ e)))
-    (cases_Bool p.1)
+cleared (p ∷ ps) e = grind (arith, cleared ps)
 
 -- a step, by whether it is refused
 pub by_reply : {A : Type 0} (P : OrRefused A → State → Type 0) (s t after : State) (q : Option Refusal) (x : A) (a : OrRefused A) → a ≡ reply_unless q x → Agree t (after_unless q s after) → ((e : Refusal) → P (Err e) s) → (q ≡ None → P (Ok x) after) → P a t
 by_reply P s t after None x a is agree refused accepted = subst (λ b. P b t) (sym is) (subst (P (Ok x)) (sym (same_state_as agree)) (accepted refl))
 by_reply P s t after (Some e) x a is agree refused accepted = subst (λ b. P b t) (sym is) (subst (P (Err e)) (sym (same_state_as agree)) (refused e))
 
--- a step: refused, it leaves all as it was; else what is to be shown of the call
-pub step_sound : {A : Type 0} (r : Rules) (m : TaggedMemory) (s t after : State) (call : OrRefused A → Call) (q : Option Refusal) (x : A) (a : OrRefused A) → a ≡ reply_unless q x → Agree t (after_unless q s after) → Sound r m s → ((e : Refusal) → feed m (call (reply_unless (Some e) x)) ≡ m) → (q ≡ None → Sound r (feed m (call (reply_unless None x))) after) → Sound r (feed m (call a)) t
-step_sound r m s t after call None x a is agree was refused accepted = subst (λ b. Sound r (feed m (call b)) t) (sym is) (subst (Sound r (feed m (call (reply_unless None x)))) (sym (same_state_as agree)) (accepted refl))
-step_sound r m s t after call (Some e) x a is agree was refused accepted = subst (λ b. Sound r (feed m (call b)) t) (sym is) (subst (λ n. Sound r n t) (sym (refused e)) (subst (Sound r m) (sym (same_state_as agree)) was))
+-- an accepted slip is of the tenure that the bus has
+pub at_bus : (s : State) (slip : Slip) (stage : Stage) → first_reason (slip_reasons s slip stage) ≡ None → bus_at s.bus stage slip.number ≡ true
+at_bus s slip stage none = grind arith
 
--- a step that is always refused
-pub refused_sound : {A : Type 0} (r : Rules) (m : TaggedMemory) (s t : State) (call : OrRefused A → Call) (q : Option Refusal) (x : A) (a : OrRefused A) → a ≡ reply_unless q x → Agree t s → Sound r m s → ((e : Refusal) → feed m (call (reply_unless (Some e) x)) ≡ m) → (q ≡ None → ⊥) → Sound r (feed m (call a)) t
-refused_sound r m s t call None x a is agree was refused never = absurd (never refl)
-refused_sound r m s t call (Some e) x a is agree was refused never = step_sound r m s t s call (Some e) x a is agree was refused (λ none. absurd (never none))
+-- any other slip is refused, and changes nothing
+unserved : {A : Type 0} (P : OrRefused A → State → Type 0) (s t : State) (slip : Slip) (stage : Stage) (x : A) (a : OrRefused A) → bus_at s.bus stage slip.number ≡ false → a ≡ reply_unless (first_reason (slip_reasons s slip stage)) x → Agree t s → ((e : Refusal) → P (Err e) s) → P a t
+unserved P s t slip stage x a silent is agree refused =
+    by_reply P s t s _ x a is (subst (Agree t) (sym (same_unless (first_reason (slip_reasons s slip stage)))) agree) refused (λ none. absurd (both_ways _ silent (at_bus s slip stage none)))
+  where
+    same_unless : (q : Option Refusal) → after_unless q s s ≡ s
+    same_unless None = refl
+    same_unless (Some e) = refl
+
+-- a snoop, by whether it is refused
+pub by_snoop : (P : OrRefused (Slip × SnoopReport) → State → Type 0) (r : Rules) (s t : State) (slip : Slip) (a : OrRefused (Slip × SnoopReport)) → Step r s (snoop slip a) t → ((e : Refusal) → P (Err e) s) → ((x : Tenure) → s.bus ≡ granted x → slip.number ≡ x.entry.number → P (Ok (record { board = s.setup.board; number = x.entry.number; stage = to_settle }, snoop_report r s x)) (snoop_state r s x)) → P a t
+by_snoop P r s t slip a step refused served = by s.bus refl step.0 step.1
+  where
+    silent : (b : Bus) → s.bus ≡ b → bus_at b to_snoop slip.number ≡ false → bus_at s.bus to_snoop slip.number ≡ false
+    silent b bus e = ap (λ y. bus_at y to_snoop slip.number) bus ∙ e
+
+    by : (b : Bus) → s.bus ≡ b → a ≡ snoop_on r s slip b → Agree t (snoop_to r s slip b) → P a t
+    by free bus is agree = unserved P s t slip to_snoop _ a (silent free bus refl) is (subst (Agree t) refl agree) refused
+    by (granted x) bus is agree =
+        by_reply P s t (snoop_state r s x) _ _ a is agree refused
+        (λ none. served x bus (sym (eqb-true _ _ (sym (ap (λ y. bus_at y to_snoop slip.number) bus) ∙ at_bus s slip to_snoop none))))
+    by (snooped x f) bus is agree = unserved P s t slip to_snoop _ a (silent (snooped x f) bus refl) is agree refused
+
+-- a settle, by whether it is refused
+pub by_settle : (P : OrRefused Answer → State → Type 0) (r : Rules) (s t : State) (slip : Slip) (a : OrRefused Answer) → Step r s (settle slip a) t → ((e : Refusal) → P (Err e) s) → ((x : Tenure) (f : Found) → s.bus ≡ snooped x f → P (Ok (settle_answer r s x f)) (settle_state r s x f)) → P a t
+by_settle P r s t slip a step refused served = by s.bus refl step.0 step.1
+  where
+    silent : (b : Bus) → s.bus ≡ b → bus_at b to_settle slip.number ≡ false → bus_at s.bus to_settle slip.number ≡ false
+    silent b bus e = ap (λ y. bus_at y to_settle slip.number) bus ∙ e
+
+    by : (b : Bus) → s.bus ≡ b → a ≡ settle_on r s slip b → Agree t (settle_to r s slip b) → P a t
+    by free bus is agree = unserved P s t slip to_settle _ a (silent free bus refl) is agree refused
+    by (granted x) bus is agree = unserved P s t slip to_settle _ a (silent (granted x) bus refl) is agree refused
+    by (snooped x f) bus is agree = by_reply P s t (settle_state r s x f) _ _ a is agree refused (λ none. served x f bus)
