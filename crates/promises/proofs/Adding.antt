@@ -1,6 +1,6 @@
 -- What each call adds to the accounts.
-use Rattle.std.proofs.Common.{◌≡◌, ℕ, ◌+◌, ◌<◌, Bool, true, false, cond, not, ◌&&◌, eqb, List, [], ◌∷◌, ◌++◌, map, length, Some, None, Ok, Option, sym, refl, ap, ◌∙◌, subst, inl, inr, ⊎_elim, arith}
-use Rattle.std.proofs.lemmas.Bool.{cases_eq, cases_Bool, eq-eqb, ne_eqb, leb-false, not-false, and_parts, both_ways, cond-true, cond-false}
+use Rattle.std.proofs.Common.{◌≡◌, ℕ, ◌+◌, ◌<◌, Bool, true, false, cond, not, ◌&&◌, List, [], ◌∷◌, ◌++◌, map, length, Ok, Option, sym, refl, ap, ◌∙◌, subst, inl, inr, ⊎_elim, arith}
+use Rattle.std.proofs.lemmas.Bool.{cases_eq, eq-eqb, ne_eqb, leb-false, not-false, cond_both}
 use Rattle.protocol.specs.Rules.{Rules, Lawful}
 use Rattle.tagged.specs.Operations.{class_of, operation_coded}
 use Rattle.tagged.specs.declared.answers.Answer.{Answer}
@@ -8,15 +8,14 @@ use Rattle.tagged.specs.declared.answers.Notice.{Notice}
 use Rattle.tagged.specs.declared.answers.Outcome.{Outcome}
 use Rattle.tagged.specs.declared.answers.Outcome.TheVariants.{Done, Discarded, Trap, Waits}
 use Rattle.tagged.specs.declared.operations.Operation.{Operation}
-use Rattle.tagged.specs.declared.refusals.Refusal.{Refusal}
 use Rattle.tagged.specs.declared.words.Word.{Word}
 use Rattle.tagged.specs.declared.words.WordState.TheVariants.{Empty}
-use Rattle.promises.specs.Board.{Entry, Tenure, Found, own_copy, read_in, claimed, unmet, Bus, free, granted, snooped, State}
-use Rattle.promises.specs.Calls.{to_snoop, to_settle, Slip, SnoopReport, Tally, OrRefused, Call, issue, grant, give_back, snoop, settle, withdraw, evict, drain, look, save, tally}
+use Rattle.promises.specs.Board.{Entry, Tenure, Found, own_copy, read_in, claimed, unmet, State}
+use Rattle.promises.specs.Calls.{to_snoop, Slip, SnoopReport, Tally, OrRefused, Call, issue, grant, give_back, snoop, settle, withdraw, evict, drain, look, save, tally}
 use Rattle.promises.specs.Copies.{over_cores, any_core}
 use Rattle.promises.specs.Lists.{any_entry, numbered, without, put_to_sleep, wake, woken}
-use Rattle.promises.specs.Refusing.{first_reason, reply_unless, after_unless, same_stage, of_tenure, bus_at, grant_reasons, slip_reasons, issue_reasons, withdraw_reasons, evict_reasons, drain_reasons}
-use Rattle.promises.specs.Steps.{Agree, Step, updated, answer_undone, answer_served, in_reach, own_met, snoop_met, waits, snoop_state, snoop_on, snoop_to, settle_state, settle_answer, settle_on, settle_to, answers_now, issue_served, issue_now, issue_later, issue_refusal, holder, withdrawn_state, count_outcome, count_accepted}
+use Rattle.promises.specs.Refusing.{first_reason, grant_reasons, slip_reasons, issue_reasons, withdraw_reasons, evict_reasons, drain_reasons}
+use Rattle.promises.specs.Steps.{Step, updated, answer_undone, answer_served, in_reach, own_met, snoop_met, waits, snoop_state, settle_state, settle_answer, answers_now, issue_served, issue_now, issue_later, issue_refusal, holder, withdrawn_state, count_outcome, count_accepted}
 use Rattle.promises.specs.OneMemory.{TaggedMemory, is_answer}
 use Rattle.promises.specs.Promises.{times, number_if, accepted_by, answered_by, withdrawn_by}
 use Rattle.promises.proofs.Frames.{lowest_passes}
@@ -24,7 +23,7 @@ use Rattle.promises.proofs.Entries.{present_numbered}
 use Rattle.promises.proofs.Counting.{Measure, measure_wake, measure_sleep, measure_add, measure_remove, over_updated, over_same, length_measure, times_measure, one, times_cons}
 use Rattle.promises.proofs.Accounts.{Accounts, Counted, counted, Adds, accounts_more}
 use Rattle.promises.proofs.OnIssue.{answers}
-use Rattle.promises.proofs.Sound.{WaitsIn, TenureWaits, Sound, cleared, by_reply}
+use Rattle.promises.proofs.Sound.{WaitsIn, TenureWaits, Sound, cleared, by_reply, by_snoop, by_settle}
 
 -- the lists have as many requests as before, by every count
 abbrev ListsSame : State → State → Type 0
@@ -78,20 +77,14 @@ module _ (h : List Call) (s : State) (was : Accounts h s) where
   module _ (r : Rules) (slip : Slip) where
     slept : (t : Tenure) → t.core < 8 → ListsSame s (snoop_state r s t)
     slept t core F a m =
-        ⊎_elim
-        (λ e.
-        ap (λ (f : ℕ → List Entry). over_cores (λ c. F (f c))) (cond-true _ _ _ e)
-        ∙ omega (arith, over_updated F s.waiting t.core (put_to_sleep t.entry.number (s.waiting t.core)) core, measure_sleep m t.entry.number (s.waiting t.core)))
-        (λ e. ap (λ (f : ℕ → List Entry). over_cores (λ c. F (f c))) (cond-false _ _ _ e))
-        (cases_Bool (not (snoop_met r s t) && waits (class_of t.entry.operation)))
-
-    by_bus : (b : Bus) → TenureWaits s b → (a : OrRefused (Slip × SnoopReport)) (t : State) → a ≡ snoop_on r s slip b → Agree t (snoop_to r s slip b) → Accounts (snoop slip a ∷ h) t
-    by_bus free here a t is agree = unchanged _ t refl (λ p. refl) refl agree.next agree.counts agree.waiting
-    by_bus (granted x) here a t is agree = by_reply (λ b u. Accounts (snoop slip b ∷ h) u) s t (snoop_state r s x) (first_reason (slip_reasons s slip to_snoop)) _ a is agree (λ e. unchanged _ s refl (λ p. refl) refl refl refl (λ d. refl)) (λ none. accounts_more _ h s (snoop_state r s x) [] Waits 0 [] was (nothing_added _ s (snoop_state r s x) refl (λ p. refl) refl refl refl (slept x here.core)))
-    by_bus (snooped x f) here a t is agree = unchanged _ t refl (λ p. refl) refl agree.next agree.counts agree.waiting
+        cond_both (not (snoop_met r s t) && waits (class_of t.entry.operation)) _ s.waiting (λ (f : ℕ → List Entry). over_cores (λ c. F (f c)) ≡ over_cores (λ c. F (s.waiting c)))
+        (λ e. omega (arith, over_updated F s.waiting t.core (put_to_sleep t.entry.number (s.waiting t.core)) core, measure_sleep m t.entry.number (s.waiting t.core)))
+        (λ e. refl)
 
     pub snoop_adds : TenureWaits s s.bus → (a : OrRefused (Slip × SnoopReport)) (t : State) → Step r s (snoop slip a) t → Accounts (snoop slip a ∷ h) t
-    snoop_adds here a t step = by_bus s.bus here a t step.0 step.1
+    snoop_adds here a t step =
+        by_snoop (λ b u. Accounts (snoop slip b ∷ h) u) r s t slip a step (λ e. unchanged _ s refl (λ p. refl) refl refl refl (λ d. refl))
+        (λ x bus number. accounts_more _ h s (snoop_state r s x) [] Waits 0 [] was (nothing_added _ s (snoop_state r s x) refl (λ p. refl) refl refl refl (slept x (subst (TenureWaits s) bus here).core)))
 
   -- SETTLE
   module _ (r : Rules) (slip : Slip) where
@@ -143,26 +136,9 @@ module _ (h : List Call) (s : State) (was : Accounts h s) where
       settled (unmet Trap x) = answered Trap (settle_state r s t (unmet Trap x)) (settle_answer r s t (unmet Trap x)) refl refl refl refl left
       settled (unmet Waits x) = answered Waits (settle_state r s t (unmet Waits x)) (settle_answer r s t (unmet Waits x)) refl refl refl refl (λ F a m. omega arith)
 
-    settle_refused : (b : Bus) → (x : Answer) (a : OrRefused Answer) (t : State) → s.bus ≡ b → bus_at b to_settle slip.number ≡ false → a ≡ reply_unless (first_reason (slip_reasons s slip to_settle)) x → Agree t s → Accounts (settle slip a ∷ h) t
-    settle_refused b x a t bus silent is agree =
-        by_reply (λ y u. Accounts (settle slip y ∷ h) u) s t s (first_reason (slip_reasons s slip to_settle)) x a is (subst (Agree t) (sym (same_unless (first_reason (slip_reasons s slip to_settle)))) agree)
-        (λ e. unchanged _ s refl (λ p. refl) refl refl refl (λ d. refl))
-        (λ none. absurd (both_ways _ silent (sym (ap (λ y. bus_at y to_settle slip.number) bus) ∙ mine none)))
-      where
-        same_unless : (q : Option Refusal) → after_unless q s s ≡ s
-        same_unless None = refl
-        same_unless (Some e) = refl
-
-        mine : first_reason (slip_reasons s slip to_settle) ≡ None → bus_at s.bus to_settle slip.number ≡ true
-        mine none = (and_parts (eqb slip.board s.setup.board) _ (and_parts (same_stage slip.stage to_settle) _ (not-false (of_tenure s slip to_settle) (cleared (slip_reasons s slip to_settle) none).0)).1).1
-
-    settle_by_bus : (b : Bus) → s.bus ≡ b → TenureWaits s b → (a : OrRefused Answer) (t : State) → a ≡ settle_on r s slip b → Agree t (settle_to r s slip b) → Accounts (settle slip a ∷ h) t
-    settle_by_bus free bus here a t is agree = settle_refused free _ a t bus refl is agree
-    settle_by_bus (granted x) bus here a t is agree = settle_refused (granted x) _ a t bus refl is agree
-    settle_by_bus (snooped x f) bus here a t is agree = by_reply (λ y u. Accounts (settle slip y ∷ h) u) s t (settle_state r s x f) (first_reason (slip_reasons s slip to_settle)) _ a is agree (λ e. unchanged _ s refl (λ p. refl) refl refl refl (λ d. refl)) (λ none. settled x here f)
-
     pub settle_adds : TenureWaits s s.bus → (a : OrRefused Answer) (t : State) → Step r s (settle slip a) t → Accounts (settle slip a ∷ h) t
-    settle_adds here a t step = settle_by_bus s.bus refl here a t step.0 step.1
+    settle_adds here a t step =
+        by_settle (λ b u. Accounts (settle slip b ∷ h) u) r s t slip a step (λ e. unchanged _ s refl (λ p. refl) refl refl refl (λ d. refl)) (λ x f bus. settled x (subst (TenureWaits s) bus here) f)
 
   -- WITHDRAW
   pub withdraw_adds : (r : Rules) (k : ℕ) (a : OrRefused (Unit {0})) (t : State) → Step r s (withdraw k a) t → Accounts (withdraw k a ∷ h) t

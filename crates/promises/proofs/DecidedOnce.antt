@@ -1,18 +1,16 @@
 -- No request is decided twice: what is decided was answered, or is owed to the request that has the bus.
-use Rattle.std.proofs.Common.{◌≡◌, ℕ, ◌+◌, ◌≤◌, Bool, true, false, cond, ◌&&◌, eqb, List, [], ◌∷◌, ◌++◌, Some, None, Ok, Option, sym, refl, ap, ◌∙◌, subst, ⊎_elim, arith}
-use Rattle.std.proofs.lemmas.Bool.{cases_Bool, eqb-true, not-false, and_parts, both_ways, cond-true, cond-false}
+use Rattle.std.proofs.Common.{◌≡◌, ℕ, ◌+◌, ◌≤◌, Bool, true, false, cond, ◌&&◌, eqb, List, [], ◌∷◌, ◌++◌, Ok, Option, sym, refl, ap, ◌∙◌, subst, ⊎_elim, arith}
+use Rattle.std.proofs.lemmas.Bool.{cases_Bool, not-false, cond-true, cond-false, cond_both}
 use Rattle.protocol.specs.Rules.{Rules, Lawful}
 use Rattle.tagged.specs.Operations.{class_of, operation_coded, claims}
 use Rattle.tagged.specs.Rule.{unmet_outcome}
 use Rattle.tagged.specs.declared.answers.Answer.{Answer}
 use Rattle.tagged.specs.declared.operations.Class.{Class}
-use Rattle.tagged.specs.declared.operations.Class.TheVariants.{Unconditional, Waiting, NonFaulting, Trapping}
-use Rattle.tagged.specs.declared.refusals.Refusal.{Refusal}
 use Rattle.promises.specs.Board.{Entry, Tenure, Found, own_copy, read_in, claimed, unmet, Bus, free, granted, snooped, State}
-use Rattle.promises.specs.Calls.{to_snoop, to_settle, Slip, SnoopReport, OrRefused, Call, issue, grant, give_back, snoop, settle, withdraw, evict, drain, look, save, tally}
+use Rattle.promises.specs.Calls.{to_snoop, Slip, Call, issue, grant, give_back, snoop, settle, withdraw, evict, drain, look, save, tally}
 use Rattle.promises.specs.Lists.{without, oldest_ready}
-use Rattle.promises.specs.Refusing.{first_reason, after_unless, is_free, same_stage, of_tenure, bus_at, grant_reasons, slip_reasons, withdraw_reasons, evict_reasons, drain_reasons}
-use Rattle.promises.specs.Steps.{Agree, Step, gives_up, grant_bus, own_suffices, snoop_met, snoop_word, snoop_kind, snoop_found, snoop_state, snoop_on, snoop_to, settle_state, settle_answer, settle_on, settle_to, answers_now, issue_now, issue_later, issue_answer, issue_refusal}
+use Rattle.promises.specs.Refusing.{first_reason, is_free, bus_at, grant_reasons, slip_reasons, withdraw_reasons, evict_reasons, drain_reasons}
+use Rattle.promises.specs.Steps.{Step, gives_up, grant_bus, own_suffices, snoop_met, snoop_word, snoop_kind, snoop_found, settle_state, settle_answer, answers_now, issue_answer, issue_refusal}
 use Rattle.promises.specs.Runs.{Opening, Ran, opens, goes_on}
 use Rattle.promises.specs.OneMemory.{TaggedMemory, note, decide, noted_gives_up, is_done, is_answer, feed, one_memory}
 use Rattle.promises.specs.Promises.{times, number_if, answered_by, over_calls, EveryRunDecidesOnce}
@@ -22,7 +20,7 @@ use Rattle.promises.proofs.Accounts.{waits_for}
 use Rattle.promises.proofs.Accounted.{run_accounts}
 use Rattle.promises.proofs.Coherent.{run_sound}
 use Rattle.promises.proofs.Tenures.{FoundTrue, BusTrue, unmet_undone}
-use Rattle.promises.proofs.Sound.{WaitsIn, TenureWaits, Sound, tenure_noted, cleared, by_reply}
+use Rattle.promises.proofs.Sound.{WaitsIn, TenureWaits, Sound, tenure_noted, cleared, by_reply, at_bus, by_snoop, by_settle}
 use Rattle.promises.proofs.Deciding.{counts_it}
 
 -- how often number k is owed an answer that is decided
@@ -42,33 +40,17 @@ decided_if : (b : Bool) (p q : TaggedMemory) (k : ℕ) (ks : List ℕ) → p.dec
 decided_if true p q k ks e f = e
 decided_if false p q k ks e f = f
 
-pub same_unless : (s : State) (q : Option Refusal) → after_unless q s s ≡ s
-same_unless s None = refl
-same_unless s (Some e) = refl
-
-cond_bus : (P : Bus → Type 0) (b : Bool) (p q : State) (x : Bus) → p.bus ≡ x → q.bus ≡ x → P x → P (cond b p q).bus
-cond_bus P true p q x e f h = subst P (sym e) h
-cond_bus P false p q x e f h = subst P (sym f) h
-
 free_owes : (k : ℕ) (b : Bus) → is_free b ≡ true → owed k b ≡ 0
-free_owes k free e = refl
-free_owes k (granted t) e = refl
-free_owes k (snooped t f) e = absurd (both_ways false refl e)
+free_owes k b e = grind arith
 
 granted_owes : (k j : ℕ) (b : Bus) → bus_at b to_snoop j ≡ true → owed k b ≡ 0
-granted_owes k j free e = refl
-granted_owes k j (granted t) e = refl
-granted_owes k j (snooped t f) e = absurd (both_ways false refl e)
+granted_owes k j b e = grind arith
 
 grant_owes : (s : State) (c k : ℕ) (x : Option Entry) → owed k (grant_bus s c x) ≡ 0
-grant_owes s c k None = refl
-grant_owes s c k (Some e) = refl
+grant_owes s c k x = grind arith
 
 answers_gives_up : (x : Class) → is_done (unmet_outcome x) ≡ false → is_answer (unmet_outcome x) ≡ gives_up x
-answers_gives_up Unconditional e = absurd (both_ways true e refl)
-answers_gives_up Waiting e = refl
-answers_gives_up NonFaulting e = refl
-answers_gives_up Trapping e = refl
+answers_gives_up x e = grind arith
 
 module _ (r : Rules) (h : List Call) (m : TaggedMemory) (s : State) (sound : Sound r m s) (was : Balanced h m s.bus) where
   issued : (c k w v : ℕ) (a : Answer) → Balanced (issue c k w v (Ok a) ∷ h) (feed m (issue c k w v (Ok a))) s.bus
@@ -79,12 +61,6 @@ module _ (r : Rules) (h : List Call) (m : TaggedMemory) (s : State) (sound : Sou
       let lhs = times_append j (number_if b a.number) m.decided in
       let rhs = times_append j (number_if b a.number) (over_calls (answered_by is_answer) h) in
       omega (arith, now, lhs, rhs, was j)
-
-  pub mine : (slip : Slip) → first_reason (slip_reasons s slip to_snoop) ≡ None → bus_at s.bus to_snoop slip.number ≡ true
-  mine slip none = (and_parts (eqb slip.board s.setup.board) _ (and_parts (same_stage slip.stage to_snoop) _ (not-false (of_tenure s slip to_snoop) (cleared (slip_reasons s slip to_snoop) none).0)).1).1
-
-  pub mine_settled : (slip : Slip) → first_reason (slip_reasons s slip to_settle) ≡ None → bus_at s.bus to_settle slip.number ≡ true
-  mine_settled slip none = (and_parts (eqb slip.board s.setup.board) _ (and_parts (same_stage slip.stage to_settle) _ (not-false (of_tenure s slip to_settle) (cleared (slip_reasons s slip to_settle) none).0)).1).1
 
   -- SNOOP
   module _ (slip : Slip) (t : Tenure) (bus : s.bus ≡ granted t) (number : slip.number ≡ t.entry.number) where
@@ -119,17 +95,6 @@ module _ (r : Rules) (h : List Call) (m : TaggedMemory) (s : State) (sound : Sou
         let none : owed k s.bus ≡ 0 = ap (owed k) bus in
         omega (arith, now, times_append k (number_if deciding slip.number) m.decided, found_owed k, none, was k)
 
-  snoop_by : (slip : Slip) (b : Bus) → s.bus ≡ b → (a : OrRefused (Slip × SnoopReport)) (t : State) → a ≡ snoop_on r s slip b → Agree t (snoop_to r s slip b) → Balanced (snoop slip a ∷ h) (feed m (snoop slip a)) t.bus
-  snoop_by slip free bus a t is agree =
-      by_reply (λ b u. Balanced (snoop slip b ∷ h) (feed m (snoop slip b)) u.bus) s t s (first_reason (slip_reasons s slip to_snoop)) _ a is (subst (Agree t) (sym (same_unless s (first_reason (slip_reasons s slip to_snoop)))) agree) (λ e. was)
-      (λ none. absurd (both_ways false refl (sym (ap (λ y. bus_at y to_snoop slip.number) bus) ∙ mine slip none)))
-  snoop_by slip (granted x) bus a t is agree =
-      by_reply (λ b u. Balanced (snoop slip b ∷ h) (feed m (snoop slip b)) u.bus) s t (snoop_state r s x) (first_reason (slip_reasons s slip to_snoop)) _ a is agree (λ e. was)
-      (λ none. snooped_balanced slip x bus (sym (eqb-true _ _ (sym (ap (λ y. bus_at y to_snoop slip.number) bus) ∙ mine slip none))))
-  snoop_by slip (snooped x f) bus a t is agree =
-      by_reply (λ b u. Balanced (snoop slip b ∷ h) (feed m (snoop slip b)) u.bus) s t s (first_reason (slip_reasons s slip to_snoop)) _ a is (subst (Agree t) (sym (same_unless s (first_reason (slip_reasons s slip to_snoop)))) agree) (λ e. was)
-      (λ none. absurd (both_ways false refl (sym (ap (λ y. bus_at y to_snoop slip.number) bus) ∙ mine slip none)))
-
   -- SETTLE
   settled : (slip : Slip) (t : Tenure) (f : Found) → s.bus ≡ snooped t f → Balanced (settle slip (Ok (settle_answer r s t f)) ∷ h) (feed m (settle slip (Ok (settle_answer r s t f)))) (settle_state r s t f).bus
   settled slip t f bus = by f (λ k. was k ∙ ap (λ b. times k (over_calls (answered_by is_answer) h) + owed k b) bus) (subst (BusTrue r m.word s) bus sound.bus)
@@ -148,30 +113,20 @@ module _ (r : Rules) (h : List Call) (m : TaggedMemory) (s : State) (sound : Sou
           let now : times k (feed m (settle slip (Ok (settle_answer r s t (unmet o x))))).decided ≡ times k m.decided = ap (λ (n : TaggedMemory). times k n.decided) (cond-false (is_done o) (decide m t.entry.number) m undone) in
           omega (arith, now, times_append k (number_if (is_answer o) t.entry.number) (over_calls (answered_by is_answer) h), before k)
 
-  settle_by : (slip : Slip) (b : Bus) → s.bus ≡ b → (a : OrRefused Answer) (t : State) → a ≡ settle_on r s slip b → Agree t (settle_to r s slip b) → Balanced (settle slip a ∷ h) (feed m (settle slip a)) t.bus
-  settle_by slip free bus a t is agree =
-      by_reply (λ b u. Balanced (settle slip b ∷ h) (feed m (settle slip b)) u.bus) s t s (first_reason (slip_reasons s slip to_settle)) _ a is (subst (Agree t) (sym (same_unless s (first_reason (slip_reasons s slip to_settle)))) agree) (λ e. was)
-      (λ none. absurd (both_ways false refl (sym (ap (λ y. bus_at y to_settle slip.number) bus) ∙ mine_settled slip none)))
-  settle_by slip (granted x) bus a t is agree =
-      by_reply (λ b u. Balanced (settle slip b ∷ h) (feed m (settle slip b)) u.bus) s t s (first_reason (slip_reasons s slip to_settle)) _ a is (subst (Agree t) (sym (same_unless s (first_reason (slip_reasons s slip to_settle)))) agree) (λ e. was)
-      (λ none. absurd (both_ways false refl (sym (ap (λ y. bus_at y to_settle slip.number) bus) ∙ mine_settled slip none)))
-  settle_by slip (snooped x f) bus a t is agree =
-      by_reply (λ b u. Balanced (settle slip b ∷ h) (feed m (settle slip b)) u.bus) s t (settle_state r s x f) (first_reason (slip_reasons s slip to_settle)) _ a is agree (λ e. was) (λ none. settled slip x f bus)
-
   pub call_balanced : (c : Call) (t : State) → Step r s c t → Balanced (c ∷ h) (feed m c) t.bus
   call_balanced (issue c k w v a) t step =
       by_reply (λ b u. Balanced (issue c k w v b ∷ h) (feed m (issue c k w v b)) u.bus) s t _ (issue_refusal r s c k w v) _ a step.0 step.1 (λ e. was)
       (λ none.
       let answer = issue_answer r s c (operation_coded k) w v in
-      cond_bus (Balanced (issue c k w v (Ok answer) ∷ h) (feed m (issue c k w v (Ok answer)))) (answers_now r s c (operation_coded k) w v) (issue_now r s c (operation_coded k) w v) (issue_later r s c (operation_coded k) w v) s.bus refl refl (issued c k w v answer))
+      cond_both (answers_now r s c (operation_coded k) w v) _ _ (λ (u : State). Balanced (issue c k w v (Ok answer) ∷ h) (feed m (issue c k w v (Ok answer))) u.bus) (λ _. issued c k w v answer) (λ _. issued c k w v answer))
   call_balanced (grant c a) t step =
       by_reply (λ b u. Balanced h m u.bus) s t _ (first_reason (grant_reasons s c)) _ a step.0 step.1 (λ e. was)
       (λ none k. omega (arith, was k, free_owes k s.bus (not-false (is_free s.bus) (cleared (grant_reasons s c) none).1.0), grant_owes s c k (oldest_ready [] (s.waiting c))))
   call_balanced (give_back slip a) t step =
       by_reply (λ b u. Balanced h m u.bus) s t _ (first_reason (slip_reasons s slip to_snoop)) _ a step.0 step.1 (λ e. was)
-      (λ none k. omega (arith, was k, granted_owes k slip.number s.bus (mine slip none)))
-  call_balanced (snoop slip a) t step = snoop_by slip s.bus refl a t step.0 step.1
-  call_balanced (settle slip a) t step = settle_by slip s.bus refl a t step.0 step.1
+      (λ none k. omega (arith, was k, granted_owes k slip.number s.bus (at_bus s slip to_snoop none)))
+  call_balanced (snoop slip a) t step = by_snoop (λ b u. Balanced (snoop slip b ∷ h) (feed m (snoop slip b)) u.bus) r s t slip a step (λ e. was) (snooped_balanced slip)
+  call_balanced (settle slip a) t step = by_settle (λ b u. Balanced (settle slip b ∷ h) (feed m (settle slip b)) u.bus) r s t slip a step (λ e. was) (settled slip)
   call_balanced (withdraw k a) t step = by_reply (λ b u. Balanced h m u.bus) s t _ (first_reason (withdraw_reasons s k)) _ a step.0 step.1 (λ e. was) (λ none. was)
   call_balanced (evict c w a) t step = by_reply (λ b u. Balanced h m u.bus) s t _ (first_reason (evict_reasons s r c w)) _ a step.0 step.1 (λ e. was) (λ none. was)
   call_balanced (drain a) t step = by_reply (λ b u. Balanced h m u.bus) s t _ (first_reason (drain_reasons s)) _ a step.0 step.1 (λ e. was) (λ none. was)

@@ -1,17 +1,17 @@
 -- Every run decides requests of one core on one word in the order of their issue.
-use Rattle.std.proofs.Common.{◌≡◌, ℕ, ◌<◌, ◌≤◌, Bool, true, false, cond, not, ◌&&◌, ◌||◌, eqb, ◌⊎◌, List, [], ◌∷◌, ◌++◌, Some, None, Ok, Option, sym, refl, ap, ◌∙◌, subst, inl, inr, ⊎_elim, arith}
-use Rattle.std.proofs.lemmas.Bool.{cases_eq, eq-eqb, eqb-true, not-true, not-false, and_parts, both_ways, cond-true}
+use Rattle.std.proofs.Common.{◌≡◌, ℕ, ◌<◌, ◌≤◌, Bool, true, false, cond, not, ◌&&◌, eqb, ◌⊎◌, List, [], ◌∷◌, ◌++◌, Some, None, Ok, Option, sym, refl, ap, ◌∙◌, subst, inl, inr, ⊎_elim, arith}
+use Rattle.std.proofs.lemmas.Bool.Decides.{nat_tests}
+use Rattle.std.proofs.lemmas.Bool.{cases_eq, not-true, and_parts, cond-true}
 use Rattle.protocol.specs.Rules.{Rules, Lawful}
 use Rattle.tagged.specs.Operations.{class_of, operation_coded}
-use Rattle.tagged.specs.declared.answers.Answer.{Answer}
 use Rattle.tagged.specs.declared.answers.Outcome.TheVariants.{Waits}
 use Rattle.tagged.specs.declared.operations.Operation.{Operation}
 use Rattle.tagged.specs.declared.words.WordState.TheVariants.{Empty}
 use Rattle.promises.specs.Board.{Entry, Tenure, Found, own_copy, read_in, claimed, unmet, Bus, free, granted, snooped, State}
-use Rattle.promises.specs.Calls.{Stage, to_snoop, to_settle, Slip, SnoopReport, OrRefused, Call, issue, grant, give_back, snoop, settle, withdraw, evict, drain, look, save, tally}
+use Rattle.promises.specs.Calls.{to_snoop, Slip, Call, issue, grant, give_back, snoop, settle, withdraw, evict, drain, look, save, tally}
 use Rattle.promises.specs.Lists.{any_entry, on_word, without, put_to_sleep, woken, oldest_ready}
-use Rattle.promises.specs.Refusing.{first_reason, same_stage, of_tenure, bus_at, grant_reasons, slip_reasons, withdraw_reasons, evict_reasons, drain_reasons}
-use Rattle.promises.specs.Steps.{Agree, Step, updated, with_bus, grant_bus, answer_undone, answer_served, in_reach, own_met, snoop_met, waits, snoop_kind, snoop_state, snoop_on, snoop_to, is_waits, settle_state, settle_answer, settle_on, settle_to, holder, withdrawn_state, evicted_state, drained_state, answers_now, issue_served, issue_now, issue_later, issue_refusal}
+use Rattle.promises.specs.Refusing.{first_reason, grant_reasons, slip_reasons, withdraw_reasons, evict_reasons, drain_reasons}
+use Rattle.promises.specs.Steps.{Step, updated, with_bus, grant_bus, answer_undone, answer_served, in_reach, own_met, snoop_met, waits, snoop_kind, snoop_state, is_waits, settle_state, settle_answer, holder, withdrawn_state, evicted_state, drained_state, answers_now, issue_served, issue_now, issue_later, issue_refusal}
 use Rattle.promises.specs.Runs.{Opening, opened, Ran, opens, goes_on}
 use Rattle.promises.specs.OneMemory.{Note, TaggedMemory, note, serve_noted, decide, noted_gives_up, is_done, is_answer, feed, one_memory}
 use Rattle.promises.specs.Promises.{times, EveryEntry, InIssueOrder, IsDecidedOnce, EveryRunDecidesInIssueOrder}
@@ -22,14 +22,10 @@ use Rattle.promises.proofs.Entries.{every_weaker, every_both, every_append}
 use Rattle.promises.proofs.Rising.{Rising, Each, Within, within_same, within_then, within_wake, within_sleep, within_without, rising_append, ready_oldest}
 use Rattle.promises.proofs.Ordering.{At, OldestOnWord, Oldest, Earlier, Ordered, order_same, fewer_wait, oldest_within, oldest_kept, tenure_decided}
 use Rattle.promises.proofs.OnIssue.{answers}
-use Rattle.promises.proofs.Sound.{Noted, WaitsIn, TenureWaits, Sound, tenure_noted, cleared, by_reply}
+use Rattle.promises.proofs.Sound.{Noted, WaitsIn, TenureWaits, Sound, tenure_noted, by_reply, by_snoop, by_settle}
 use Rattle.promises.proofs.Coherent.{run_sound}
 use Rattle.promises.proofs.Deciding.{counts_it, one_other}
-use Rattle.promises.proofs.DecidedOnce.{same_unless, decides_once}
-
--- an accepted slip is of the tenure that the bus has
-at_bus : (s : State) (slip : Slip) (stage : Stage) → first_reason (slip_reasons s slip stage) ≡ None → bus_at s.bus stage slip.number ≡ true
-at_bus s slip stage none = (and_parts (eqb slip.board s.setup.board) _ (and_parts (same_stage slip.stage stage) _ (not-false (of_tenure s slip stage) (cleared (slip_reasons s slip stage) none).0)).1).1
+use Rattle.promises.proofs.DecidedOnce.{decides_once}
 
 every_one : (P : Entry → Type 0) → ((e : Entry) → P e) → (es : List Entry) → EveryEntry P es
 every_one P h [] = tt
@@ -43,16 +39,11 @@ within_updated f c l h d =
     (cases_eq d c)
 
 serve_notes : (m : TaggedMemory) (k : ℕ) (x : Option Note) → (serve_noted m k x).noted ≡ m.noted
-serve_notes m k None = refl
-serve_notes m k (Some x) = refl
+serve_notes m k x = grind arith
 
 none_on_word : (w : ℕ) (es : List Entry) → any_entry (on_word w) es ≡ false → Each (λ k v. w ≡ v → ⊥) es
 none_on_word w [] h = tt
-none_on_word w (e ∷ es) h = by (on_word w e) refl h (λ q. none_on_word w es q)
-  where
-    by : (b : Bool) → on_word w e ≡ b → (b || any_entry (on_word w) es) ≡ false → (any_entry (on_word w) es ≡ false → Each (λ k v. w ≡ v → ⊥) es) → Each (λ k v. w ≡ v → ⊥) (e ∷ es)
-    by true q h rest = absurd (both_ways true h refl)
-    by false q h rest = ((λ same. both_ways (on_word w e) q (eq-eqb e.word w (sym same))), rest h)
+none_on_word w (e ∷ es) h = ((λ q. grind (arith, nat_tests)), none_on_word w es (grind arith))
 
 module _ (r : Rules) (m : TaggedMemory) (s : State) (sound : Sound r m s) (was : Ordered m s) where
   -- GRANT
@@ -199,35 +190,16 @@ module _ (r : Rules) (m : TaggedMemory) (s : State) (sound : Sound r m s) (was :
         subst (λ n. Ordered n (issue_now r s c o w v)) (sym (cond-true (is_answer (issue_served r s c o w v).outcome) (decide noting s.next) noting (answers r law m s sound c o w v y))) (now_ordered alone)
     issued false y = later_ordered
 
-  -- the tenure of the bus
-  snoop_by : (slip : Slip) (b : Bus) → s.bus ≡ b → (a : OrRefused (Slip × SnoopReport)) (t : State) → a ≡ snoop_on r s slip b → Agree t (snoop_to r s slip b) → IsDecidedOnce (feed m (snoop slip a)) → Ordered (feed m (snoop slip a)) t
-  snoop_by slip free bus a t is agree =
-      by_reply (λ b u. IsDecidedOnce (feed m (snoop slip b)) → Ordered (feed m (snoop slip b)) u) s t s (first_reason (slip_reasons s slip to_snoop)) _ a is (subst (Agree t) (sym (same_unless s (first_reason (slip_reasons s slip to_snoop)))) agree) (λ e once. was)
-      (λ none. absurd (both_ways false refl (sym (ap (λ y. bus_at y to_snoop slip.number) bus) ∙ at_bus s slip to_snoop none)))
-  snoop_by slip (granted x) bus a t is agree =
-      by_reply (λ b u. IsDecidedOnce (feed m (snoop slip b)) → Ordered (feed m (snoop slip b)) u) s t (snoop_state r s x) (first_reason (slip_reasons s slip to_snoop)) _ a is agree (λ e once. was)
-      (λ none once. snooped_ordered slip x bus (sym (eqb-true _ _ (sym (ap (λ y. bus_at y to_snoop slip.number) bus) ∙ at_bus s slip to_snoop none))) (eqb (snoop_kind r s x) 3 && noted_gives_up (m.noted slip.number)) once)
-  snoop_by slip (snooped x f) bus a t is agree =
-      by_reply (λ b u. IsDecidedOnce (feed m (snoop slip b)) → Ordered (feed m (snoop slip b)) u) s t s (first_reason (slip_reasons s slip to_snoop)) _ a is (subst (Agree t) (sym (same_unless s (first_reason (slip_reasons s slip to_snoop)))) agree) (λ e once. was)
-      (λ none. absurd (both_ways false refl (sym (ap (λ y. bus_at y to_snoop slip.number) bus) ∙ at_bus s slip to_snoop none)))
-
-  settle_by : (slip : Slip) (b : Bus) → s.bus ≡ b → (a : OrRefused Answer) (t : State) → a ≡ settle_on r s slip b → Agree t (settle_to r s slip b) → IsDecidedOnce (feed m (settle slip a)) → Ordered (feed m (settle slip a)) t
-  settle_by slip free bus a t is agree =
-      by_reply (λ b u. IsDecidedOnce (feed m (settle slip b)) → Ordered (feed m (settle slip b)) u) s t s (first_reason (slip_reasons s slip to_settle)) _ a is (subst (Agree t) (sym (same_unless s (first_reason (slip_reasons s slip to_settle)))) agree) (λ e once. was)
-      (λ none. absurd (both_ways false refl (sym (ap (λ y. bus_at y to_settle slip.number) bus) ∙ at_bus s slip to_settle none)))
-  settle_by slip (granted x) bus a t is agree =
-      by_reply (λ b u. IsDecidedOnce (feed m (settle slip b)) → Ordered (feed m (settle slip b)) u) s t s (first_reason (slip_reasons s slip to_settle)) _ a is (subst (Agree t) (sym (same_unless s (first_reason (slip_reasons s slip to_settle)))) agree) (λ e once. was)
-      (λ none. absurd (both_ways false refl (sym (ap (λ y. bus_at y to_settle slip.number) bus) ∙ at_bus s slip to_settle none)))
-  settle_by slip (snooped x f) bus a t is agree =
-      by_reply (λ b u. IsDecidedOnce (feed m (settle slip b)) → Ordered (feed m (settle slip b)) u) s t (settle_state r s x f) (first_reason (slip_reasons s slip to_settle)) _ a is agree (λ e once. was)
-      (λ none once. settled x (subst (TenureWaits s) bus sound.tenure) (subst (Oldest s) bus was.oldest) slip f once)
-
   pub call_ordered : Lawful r → (c : Call) (t : State) → Step r s c t → IsDecidedOnce (feed m c) → Ordered (feed m c) t
   call_ordered law (issue c k w v a) t step once = by_reply (λ b u. Ordered (feed m (issue c k w v b)) u) s t _ (issue_refusal r s c k w v) _ a step.0 step.1 (λ e. was) (λ none. issued law c k w v (answers_now r s c (operation_coded k) w v) refl)
   call_ordered law (grant c a) t step once = by_reply (λ b u. Ordered m u) s t _ (first_reason (grant_reasons s c)) _ a step.0 step.1 (λ e. was) (λ none. granted_ordered c (oldest_ready [] (s.waiting c)) refl)
   call_ordered law (give_back slip a) t step once = by_reply (λ b u. Ordered m u) s t (with_bus s free) (first_reason (slip_reasons s slip to_snoop)) _ a step.0 step.1 (λ e. was) (λ none. fewer_wait m s (with_bus s free) was (λ c. within_same (s.waiting c)) (omega arith) tt)
-  call_ordered law (snoop slip a) t step once = snoop_by slip s.bus refl a t step.0 step.1 once
-  call_ordered law (settle slip a) t step once = settle_by slip s.bus refl a t step.0 step.1 once
+  call_ordered law (snoop slip a) t step once =
+      by_snoop (λ b u. IsDecidedOnce (feed m (snoop slip b)) → Ordered (feed m (snoop slip b)) u) r s t slip a step (λ e once. was)
+      (λ x bus number. snooped_ordered slip x bus number (eqb (snoop_kind r s x) 3 && noted_gives_up (m.noted slip.number))) once
+  call_ordered law (settle slip a) t step once =
+      by_settle (λ b u. IsDecidedOnce (feed m (settle slip b)) → Ordered (feed m (settle slip b)) u) r s t slip a step (λ e once. was)
+      (λ x f bus. settled x (subst (TenureWaits s) bus sound.tenure) (subst (Oldest s) bus was.oldest) slip f) once
   call_ordered law (withdraw k a) t step once =
       let lists = within_updated s.waiting (holder s k) (without k (s.waiting (holder s k))) (within_without k (s.waiting (holder s k))) in
       by_reply (λ b u. Ordered m u) s t (withdrawn_state s k) (first_reason (withdraw_reasons s k)) _ a step.0 step.1 (λ e. was) (λ none. fewer_wait m s (withdrawn_state s k) was lists (omega arith) (oldest_kept s (withdrawn_state s k) s.bus lists was.oldest))
