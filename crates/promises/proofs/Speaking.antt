@@ -1,6 +1,7 @@
 -- Every answer, look and save speaks for the one tagged memory.
-use Rattle.std.proofs.Common.{◌≡◌, ℕ, ◌<◌, min, Bool, true, false, cond, ◌&&◌, eqb, ◌⊎◌, List, [], ◌++◌, length, drop, Some, None, Ok, Err, Option, sym, refl, ap, ◌∙◌, subst, inl, inr, ⊎_elim, arith}
-use Rattle.std.proofs.lemmas.Bool.{cases_Bool, eqb-true, not-false, and_parts, and_from, both_ways, cond-true, cond-false}
+use Rattle.std.proofs.Common.{◌≡◌, ℕ, ◌<◌, min, Bool, true, false, cond, ◌&&◌, eqb, ◌⊎◌, List, [], ◌++◌, length, drop, Some, None, Ok, Option, sym, refl, ap, ◌∙◌, subst, inl, inr, ⊎_elim, arith}
+use Rattle.std.proofs.lemmas.Bool.Decides.{nat_tests}
+use Rattle.std.proofs.lemmas.Bool.{and_from, both_ways, cond-true, cond-false, cond_both}
 use Rattle.protocol.specs.Rules.{Rules, Lawful}
 use Rattle.memory.specs.Pictures.{picture_length}
 use Rattle.tagged.specs.Operations.{claims, class_of, operation_coded}
@@ -21,49 +22,36 @@ use Rattle.promises.specs.Board.{word_in, served_lines}
 use Rattle.promises.specs.Calls.{to_snoop, to_settle, Slip, SnoopReport, OrRefused, Call, issue, grant, give_back, snoop, settle, withdraw, evict, drain, look, save, tally}
 use Rattle.promises.specs.Copies.{stands}
 use Rattle.promises.specs.Lists.{woken, oldest_ready}
-use Rattle.promises.specs.Refusing.{first_reason, reply_unless, after_unless, same_stage, of_tenure, bus_at, grant_reasons, slip_reasons, withdraw_reasons, evict_reasons, drain_reasons, look_reasons, save_reasons}
-use Rattle.promises.specs.Steps.{Agree, Step, updated, grant_bus, gives_up, answer_undone, answer_served, picture_of, own_suffices, snoop_met, snoop_word, snoop_kind, snoop_found, snoop_report, snoop_state, snoop_on, snoop_to, settle_state, settle_answer, settle_on, settle_to, answers_now, issue_served, issue_now, issue_later, issue_answer, issue_refusal}
+use Rattle.promises.specs.Refusing.{first_reason, reply_unless, after_unless, grant_reasons, slip_reasons, withdraw_reasons, evict_reasons, drain_reasons, look_reasons, save_reasons}
+use Rattle.promises.specs.Steps.{Step, updated, grant_bus, gives_up, answer_undone, answer_served, picture_of, own_suffices, snoop_met, snoop_word, snoop_kind, snoop_found, snoop_report, settle_state, settle_answer, answers_now, issue_served, issue_answer, issue_refusal, save_reply}
 use Rattle.promises.specs.OneMemory.{TaggedMemory, note, serve_noted, decide, noted_gives_up, is_done, is_answer, feed, line_by_words}
 use Rattle.promises.specs.Promises.{AsGiven, AnswerIsGiven, SpeaksTrue}
 use Rattle.promises.specs.Runs.{Opening}
-use Rattle.promises.proofs.Contents.{updated_same, updated_other, line_word}
+use Rattle.promises.proofs.Contents.{updated_same, line_word}
 use Rattle.promises.proofs.Standing.{stands_true}
 use Rattle.promises.proofs.Tenures.{Met, FoundTrue, BusTrue, travels_true, unmet_undone}
 use Rattle.promises.proofs.OnIssue.{answers, own_is}
-use Rattle.promises.proofs.Sound.{note_of, WaitsIn, TenureWaits, Sound, tenure_noted, cleared, by_reply}
+use Rattle.promises.proofs.Sound.{note_of, WaitsIn, TenureWaits, Sound, tenure_noted, by_reply, by_snoop, by_settle}
 
 -- the answer that is owed after a snoop of kind 3 is what the memory gave
-pub record OwesAnswer (m : TaggedMemory) (k : ℕ) (o : Outcome) (found : WordState) : Type 0 where
-  pub given : Served
-  pub is : m.gave k ≡ Some given
-  pub outcome : o ≡ given.outcome
-  pub value : 0 ≡ given.value
-  pub state : found ≡ given.found
-  pub notice : None ≡ given.notice
-
 abbrev pub Owed : TaggedMemory → Bus → Type 0
 Owed m free = Unit {0}
 Owed m (granted t) = Unit {0}
 Owed m (snooped t own_copy) = Unit {0}
 Owed m (snooped t (read_in shared f)) = Unit {0}
 Owed m (snooped t (claimed f)) = Unit {0}
-Owed m (snooped t (unmet o found)) = is_answer o ≡ true → OwesAnswer m t.entry.number o found
+Owed m (snooped t (unmet o found)) = is_answer o ≡ true → AsGiven m (answer_undone t.entry.number o found)
 
--- an answer that is one has to be given
-given_when : {P : Type 0} (b : Bool) → b ≡ true → P → cond {A = Type 0} b P (Unit {0})
-given_when true e p = p
-given_when false e p = tt
-
--- the reply alone, by whether it is a refusal
-reply_only : {A : Type 0} (P : OrRefused A → Type 0) (q : Option Refusal) (x : A) (a : OrRefused A) → a ≡ reply_unless q x → ((e : Refusal) → P (Err e)) → P (Ok x) → P a
-reply_only P None x a is refused accepted = subst P (sym is) accepted
-reply_only P (Some e) x a is refused accepted = subst P (sym is) (refused e)
-
-abbrev is_unmet : Found → Bool
-is_unmet own_copy = false
-is_unmet (read_in shared f) = false
-is_unmet (claimed f) = false
-is_unmet (unmet x z) = true
+-- an answer that tells what the memory gave
+as_served : (m : TaggedMemory) (k : ℕ) (given x : Served) (woke : ℕ) → m.gave k ≡ Some given → x ≡ given → AsGiven m (answer_served k x woke)
+as_served m k given x woke is same = record {
+  given = given;
+  is = is;
+  outcome = ap (λ (y : Served). y.outcome) same;
+  value = ap (λ (y : Served). y.value) same;
+  found = ap (λ (y : Served). y.found) same;
+  notice = ap (λ (y : Served). y.notice) same;
+}
 
 module _ (r : Rules) (law : Lawful r) (op : Opening) (m : TaggedMemory) (s : State) (was : Sound r m s) (owed : Owed m s.bus) (lines : s.setup.lines ≡ op.lines) where
   standing : (n : ℕ) → stands r s n ≡ line_by_words m.word n
@@ -71,26 +59,28 @@ module _ (r : Rules) (law : Lawful r) (op : Opening) (m : TaggedMemory) (s : Sta
 
   -- LOOK
   pub look_speaks : (w : ℕ) (a : OrRefused Word) (t : State) → Step r s (look w a) t → SpeaksTrue op m (look w a)
-  look_speaks w a t step = reply_only (λ b. SpeaksTrue op m (look w b)) (first_reason (look_reasons s w)) _ a step.0 (λ e. tt) (ap (λ f. word_in f w) (standing (line_of w)) ∙ line_word m.word w)
+  look_speaks w a t step = subst (λ b. SpeaksTrue op m (look w b)) (sym step.0) (by (first_reason (look_reasons s w)))
+    where
+      by : (q : Option Refusal) → SpeaksTrue op m (look w (reply_unless q (word_in (stands r s (line_of w)) w)))
+      by None = ap (λ f. word_in f w) (standing (line_of w)) ∙ line_word m.word w
+      by (Some e) = tt
 
   -- SAVE
   pub save_speaks : (before after : List ℕ) (a : OrRefused ℕ) (t : State) → Step r s (save before after a) t → SpeaksTrue op m (save before after a)
-  save_speaks before after a t step = by (first_reason (save_reasons s (length before))) refl
+  save_speaks before after a t step =
+      subst (λ b. SpeaksTrue op m (save before after b)) (sym step.0)
+      (subst (λ x. SpeaksTrue op m (save before x (save_reply r s before))) (sym step.1) (by (first_reason (save_reasons s (length before)))))
     where
       served : served_lines s ≡ min 2048 op.lines
       served = ap (min 2048) lines
 
-      by : (q : Option Refusal) → first_reason (save_reasons s (length before)) ≡ q → SpeaksTrue op m (save before after a)
-      by None e =
-          subst (λ b. SpeaksTrue op m (save before after b)) (sym (step.0 ∙ ap (λ x. reply_unless x (picture_length (served_lines s))) e)) (
-            ap picture_length served,
-            step.1 ∙ ap (λ x. after_unless x before (picture_of (served_lines s) (stands r s) ++ drop (picture_length (served_lines s)) before)) e
-                ∙ ap (λ f. picture_of (served_lines s) f ++ drop (picture_length (served_lines s)) before) (λ i n. standing n i)
-                ∙ ap (λ n. picture_of n (line_by_words m.word) ++ drop (picture_length (served_lines s)) before) served,
-          )
-      by (Some x) e =
-          subst (λ b. SpeaksTrue op m (save before after b)) (sym (step.0 ∙ ap (λ y. reply_unless y (picture_length (served_lines s))) e))
-          (step.1 ∙ ap (λ y. after_unless y before (picture_of (served_lines s) (stands r s) ++ drop (picture_length (served_lines s)) before)) e)
+      by : (q : Option Refusal) → SpeaksTrue op m (save before (after_unless q before (picture_of (served_lines s) (stands r s) ++ drop (picture_length (served_lines s)) before)) (reply_unless q (picture_length (served_lines s))))
+      by None = (
+        ap picture_length served,
+        ap (λ f. picture_of (served_lines s) f ++ drop (picture_length (served_lines s)) before) (λ i n. standing n i)
+            ∙ ap (λ n. picture_of n (line_by_words m.word) ++ drop (picture_length (served_lines s)) before) served,
+      )
+      by (Some x) = refl
 
   -- SETTLE
   module _ (slip : Slip) where
@@ -102,41 +92,21 @@ module _ (r : Rules) (law : Lawful r) (op : Opening) (m : TaggedMemory) (s : Sta
         let same : done_by t.entry.operation (word_in before t.entry.word) t.entry.value ≡ rule t.entry.operation (m.word t.entry.word) t.entry.value =
         ap (λ x. done_by t.entry.operation x t.entry.value) word ∙ sym (cond-true (met t.entry.operation (m.word t.entry.word).state) _ _ is)
         in
-        record {
-          given = rule t.entry.operation (m.word t.entry.word) t.entry.value;
-          is = ap (λ x. (serve_noted m t.entry.number x).gave t.entry.number) noted ∙ updated_same m.gave t.entry.number _;
-          outcome = ap (λ (x : Served). x.outcome) same;
-          value = ap (λ (x : Served). x.value) same;
-          found = ap (λ (x : Served). x.found) same;
-          notice = ap (λ (x : Served). x.notice) same;
-        }
+        as_served _ _ _ _ woke (ap (λ x. (serve_noted m t.entry.number x).gave t.entry.number) noted ∙ updated_same m.gave t.entry.number _) same
 
     settled_speaks : (t : Tenure) (f : Found) → WaitsIn s t → FoundTrue r m.word s t f → Owed m (snooped t f) → SpeaksTrue op (feed m (settle slip (Ok (settle_answer r s t f)))) (settle slip (Ok (settle_answer r s t f)))
     settled_speaks t own_copy here h owes = done_given t here h.1 _ (was.copies.true_copies t.core _ h.0.kept) _
     settled_speaks t (read_in shared f) here h owes = done_given t here h.1 f h.0.line _
     settled_speaks t (claimed f) here h owes = done_given t here h.1 f h.0.line _
     settled_speaks t (unmet Done x) here h owes = absurd (both_ways true h refl)
-    settled_speaks t (unmet Discarded x) here h owes = let o = owes refl in record { given = o.given; is = o.is; outcome = o.outcome; value = o.value; found = o.state; notice = o.notice }
-    settled_speaks t (unmet Trap x) here h owes = let o = owes refl in record { given = o.given; is = o.is; outcome = o.outcome; value = o.value; found = o.state; notice = o.notice }
+    settled_speaks t (unmet Discarded x) here h owes = owes refl
+    settled_speaks t (unmet Trap x) here h owes = owes refl
     settled_speaks t (unmet Waits x) here h owes = tt
 
-    mine : first_reason (slip_reasons s slip to_settle) ≡ None → bus_at s.bus to_settle slip.number ≡ true
-    mine none = (and_parts (eqb slip.board s.setup.board) _ (and_parts (same_stage slip.stage to_settle) _ (not-false (of_tenure s slip to_settle) (cleared (slip_reasons s slip to_settle) none).0)).1).1
-
-    unsettled : (x : Answer) (a : OrRefused Answer) → a ≡ reply_unless (first_reason (slip_reasons s slip to_settle)) x → (bus_at s.bus to_settle slip.number ≡ true → ⊥) → SpeaksTrue op (feed m (settle slip a)) (settle slip a)
-    unsettled x a is never = by (first_reason (slip_reasons s slip to_settle)) refl
-      where
-        by : (q : Option Refusal) → first_reason (slip_reasons s slip to_settle) ≡ q → SpeaksTrue op (feed m (settle slip a)) (settle slip a)
-        by None e = absurd (never (mine e))
-        by (Some y) e = subst (λ b. SpeaksTrue op (feed m (settle slip b)) (settle slip b)) (sym (is ∙ ap (λ q. reply_unless q x) e)) tt
-
-    settle_on_bus : (b : Bus) → s.bus ≡ b → TenureWaits s b → BusTrue r m.word s b → Owed m b → (a : OrRefused Answer) → a ≡ settle_on r s slip b → SpeaksTrue op (feed m (settle slip a)) (settle slip a)
-    settle_on_bus free bus here h owes a is = unsettled _ a is (λ e. both_ways false refl (sym (ap (λ b. bus_at b to_settle slip.number) bus) ∙ e))
-    settle_on_bus (granted t) bus here h owes a is = unsettled _ a is (λ e. both_ways false refl (sym (ap (λ b. bus_at b to_settle slip.number) bus) ∙ e))
-    settle_on_bus (snooped t f) bus here h owes a is = reply_only (λ b. SpeaksTrue op (feed m (settle slip b)) (settle slip b)) (first_reason (slip_reasons s slip to_settle)) _ a is (λ e. tt) (settled_speaks t f here h owes)
-
     pub settle_speaks : (a : OrRefused Answer) (t : State) → Step r s (settle slip a) t → SpeaksTrue op (feed m (settle slip a)) (settle slip a)
-    settle_speaks a t step = settle_on_bus s.bus refl was.tenure was.bus owed a step.0
+    settle_speaks a t step =
+        by_settle (λ b u. SpeaksTrue op (feed m (settle slip b)) (settle slip b)) r s t slip a step (λ e. tt)
+        (λ x f bus. settled_speaks x f (subst (TenureWaits s) bus was.tenure) (subst (BusTrue r m.word s) bus was.bus) (subst (Owed m) bus owed))
 
   -- ISSUE
   module _ (c k w v : ℕ) where
@@ -151,37 +121,22 @@ module _ (r : Rules) (law : Lawful r) (op : Opening) (m : TaggedMemory) (s : Sta
 
     now_given : answers_now r s c o w v ≡ true → (woke : ℕ) → AsGiven (decide noting s.next) (answer_served s.next (issue_served r s c o w v) woke)
     now_given y woke =
-        let same : issue_served r s c o w v ≡ rule o (m.word w) v = ap (λ x. rule o x v) (own_is r law m s was c o w v y) in
-        record {
-          given = rule o (m.word w) v;
-          is = ap (λ x. (serve_noted noting s.next x).gave s.next) fresh ∙ updated_same m.gave s.next _;
-          outcome = ap (λ (x : Served). x.outcome) same;
-          value = ap (λ (x : Served). x.value) same;
-          found = ap (λ (x : Served). x.found) same;
-          notice = ap (λ (x : Served). x.notice) same;
-        }
+        as_served _ _ _ _ woke (ap (λ x. (serve_noted noting s.next x).gave s.next) fresh ∙ updated_same m.gave s.next _) (ap (λ x. rule o x v) (own_is r law m s was c o w v y))
 
     issue_given : (b : Bool) → answers_now r s c o w v ≡ b → SpeaksTrue op (feed m (issue c k w v (Ok (cond b (answer_served s.next (issue_served r s c o w v) (woken s (issue_served r s c o w v).notice w)) (answer_undone s.next Waits Empty))))) (issue c k w v (Ok (cond b (answer_served s.next (issue_served r s c o w v) (woken s (issue_served r s c o w v).notice w)) (answer_undone s.next Waits Empty))))
     issue_given true y =
         let yes_answer = answers r law m s was c o w v y in
         let woke = woken s (issue_served r s c o w v).notice w in
         let answer = answer_served s.next (issue_served r s c o w v) woke in
-        subst (λ n. AnswerIsGiven n answer) (sym (cond-true (is_answer (issue_served r s c o w v).outcome) (decide noting s.next) noting yes_answer)) (given_when (is_answer (issue_served r s c o w v).outcome) yes_answer (now_given y woke))
+        subst (λ n. AnswerIsGiven n answer) (sym (cond-true (is_answer (issue_served r s c o w v).outcome) (decide noting s.next) noting yes_answer)) (rw yes_answer (now_given y woke))
     issue_given false z = tt
 
     pub issue_speaks : (a : OrRefused Answer) (t : State) → Step r s (issue c k w v a) t → SpeaksTrue op (feed m (issue c k w v a)) (issue c k w v a)
-    issue_speaks a t step = reply_only (λ b. SpeaksTrue op (feed m (issue c k w v b)) (issue c k w v b)) (issue_refusal r s c k w v) _ a step.0 (λ e. tt) (issue_given (answers_now r s c o w v) refl)
+    issue_speaks a t step = by_reply (λ b u. SpeaksTrue op (feed m (issue c k w v b)) (issue c k w v b)) s t _ (issue_refusal r s c k w v) _ a step.0 step.1 (λ e. tt) (λ none. issue_given (answers_now r s c o w v) refl)
 
     -- what is owed stays: the new number is another
     gave_old : (j : ℕ) → j < s.next → (feed m (issue c k w v (Ok (issue_answer r s c o w v)))).gave j ≡ m.gave j
-    gave_old j below =
-        ⊎_elim
-        (λ e. ap (λ (n : TaggedMemory). n.gave j) (cond-true (is_answer (issue_answer r s c o w v).outcome) _ _ e) ∙ ap (λ x. (serve_noted (note m (issue_answer r s c o w v).number (record { core = c; operation = o; word = w; value = v })) (issue_answer r s c o w v).number x).gave j) (updated_same m.noted (issue_answer r s c o w v).number _) ∙ updated_other m.gave (issue_answer r s c o w v).number j _ (λ same. omega (arith, number)))
-        (λ e. ap (λ (n : TaggedMemory). n.gave j) (cond-false (is_answer (issue_answer r s c o w v).outcome) _ _ e))
-        (cases_Bool (is_answer (issue_answer r s c o w v).outcome))
-      where
-        number : (issue_answer r s c o w v).number ≡ s.next
-        number = ⊎_elim (λ e. ap (λ (x : Answer). x.number) (cond-true _ _ _ e)) (λ e. ap (λ (x : Answer). x.number) (cond-false _ _ _ e)) (cases_Bool (answers_now r s c o w v))
+    gave_old j below = grind (arith, nat_tests, below)
 
   -- what is owed, with another memory that gave the bus's request the same
   owed_kept : (n : TaggedMemory) (b : Bus) → TenureWaits s b → ((j : ℕ) → j < s.next → n.gave j ≡ m.gave j) → Owed m b → Owed n b
@@ -190,7 +145,7 @@ module _ (r : Rules) (law : Lawful r) (op : Opening) (m : TaggedMemory) (s : Sta
   owed_kept n (snooped t own_copy) here same h = tt
   owed_kept n (snooped t (read_in shared f)) here same h = tt
   owed_kept n (snooped t (claimed f)) here same h = tt
-  owed_kept n (snooped t (unmet x found)) here same h = λ e. let y = h e in record { given = y.given; is = same t.entry.number (tenure_noted r m s t was here).below ∙ y.is; outcome = y.outcome; value = y.value; state = y.state; notice = y.notice }
+  owed_kept n (snooped t (unmet x found)) here same h = λ e. let y = h e in record { given = y.given; is = same t.entry.number (tenure_noted r m s t was here).below ∙ y.is; outcome = y.outcome; value = y.value; found = y.found; notice = y.notice }
 
   -- SNOOP
   module _ (slip : Slip) where
@@ -214,7 +169,7 @@ module _ (r : Rules) (law : Lawful r) (op : Opening) (m : TaggedMemory) (s : Sta
       abbrev report : Slip × SnoopReport
       report = (record { board = s.setup.board; number = t.entry.number; stage = to_settle }, snoop_report r s t)
 
-      owed_after : (x : Outcome) (y : WordState) → snoop_met r s t ≡ false → x ≡ unmet_outcome (class_of t.entry.operation) → y ≡ unmet_found (class_of t.entry.operation) (snoop_word r s t).state → is_answer x ≡ true → OwesAnswer (feed m (snoop slip (Ok report))) t.entry.number x y
+      owed_after : (x : Outcome) (y : WordState) → snoop_met r s t ≡ false → x ≡ unmet_outcome (class_of t.entry.operation) → y ≡ unmet_found (class_of t.entry.operation) (snoop_word r s t).state → is_answer x ≡ true → AsGiven (feed m (snoop slip (Ok report))) (answer_undone t.entry.number x y)
       owed_after x y not_met ox oy e =
           let unmet_here : met t.entry.operation (m.word t.entry.word).state ≡ false = sym (ap (λ (z : Word). met t.entry.operation z.state) word) ∙ not_met in
           let class = class_of t.entry.operation in
@@ -231,79 +186,35 @@ module _ (r : Rules) (law : Lawful r) (op : Opening) (m : TaggedMemory) (s : Sta
                 ∙ updated_same m.gave t.entry.number _;
             outcome = ox ∙ ap (λ (z : Served). z.outcome) (sym gives);
             value = ap (λ (z : Served). z.value) (sym gives);
-            state = oy ∙ ap (λ (z : Word). unmet_found class z.state) word ∙ ap (λ (z : Served). z.found) (sym gives);
+            found = oy ∙ ap (λ (z : Word). unmet_found class z.state) word ∙ ap (λ (z : Served). z.found) (sym gives);
             notice = ap (λ (z : Served). z.notice) (sym gives);
           }
 
       snoop_owed : Owed (feed m (snoop slip (Ok report))) (snooped t (snoop_found r s t))
       snoop_owed =
-          ⊎_elim
-          (λ y. by_found (snoop_found r s t) (λ x z e. absurd (met_found y x z e)))
-          (λ f. subst (λ g. Owed (feed m (snoop slip (Ok report))) (snooped t g)) (sym (cond-false _ _ _ f)) (λ e. owed_after _ _ f refl refl e))
-          (cases_Bool (snoop_met r s t))
-        where
-          by_found : (g : Found) → ((x : Outcome) (z : WordState) → g ≡ unmet x z → ⊥) → Owed (feed m (snoop slip (Ok report))) (snooped t g)
-          by_found own_copy no_unmet = tt
-          by_found (read_in shared f) no_unmet = tt
-          by_found (claimed f) no_unmet = tt
-          by_found (unmet x z) no_unmet = absurd (no_unmet x z refl)
-
-          met_found : snoop_met r s t ≡ true → (x : Outcome) (z : WordState) → snoop_found r s t ≡ unmet x z → ⊥
-          met_found y x z e =
-              ⊎_elim
-              (λ o. both_ways false refl (sym (ap is_unmet (cond-true _ _ _ y ∙ cond-true _ _ _ o)) ∙ ap is_unmet e))
-              (λ o.
-              ⊎_elim (λ c. both_ways false refl (sym (ap is_unmet (cond-true _ _ _ y ∙ cond-false _ _ _ o ∙ cond-true _ _ _ c)) ∙ ap is_unmet e))
-              (λ c. both_ways false refl (sym (ap is_unmet (cond-true _ _ _ y ∙ cond-false _ _ _ o ∙ cond-false _ _ _ c)) ∙ ap is_unmet e))
-              (cases_Bool (claims t.entry.operation)))
-              (cases_Bool (own_suffices r s t))
+          let n = feed m (snoop slip (Ok report)) in
+          cond_both (snoop_met r s t) _ _ (λ g. Owed n (snooped t g))
+          (λ y. cond_both (own_suffices r s t) _ _ (λ g. Owed n (snooped t g)) (λ o. tt) (λ o. cond_both (claims t.entry.operation) _ _ (λ g. Owed n (snooped t g)) (λ c. tt) (λ c. tt)))
+          (λ f e. owed_after _ _ f refl refl e)
 
   -- WHAT IS OWED AFTER EACH CALL
-  slip_number : (b : Bus) (t : Tenure) (slip : Slip) → s.bus ≡ granted t → first_reason (slip_reasons s slip to_snoop) ≡ None → slip.number ≡ t.entry.number
-  slip_number b t slip bus none =
-      let mine = (and_parts (eqb slip.board s.setup.board) _ (and_parts (same_stage slip.stage to_snoop) _ (not-false (of_tenure s slip to_snoop) (cleared (slip_reasons s slip to_snoop) none).0)).1).1 in
-      sym (eqb-true _ _ (sym (ap (λ x. bus_at x to_snoop slip.number) bus) ∙ mine))
-
-  snoop_owes : (slip : Slip) (b : Bus) → s.bus ≡ b → (a : OrRefused (Slip × SnoopReport)) (t : State) → a ≡ snoop_on r s slip b → Agree t (snoop_to r s slip b) → Owed (feed m (snoop slip a)) t.bus
-  snoop_owes slip free bus a t is agree = subst (Owed (feed m (snoop slip a))) (sym (agree.bus ∙ bus)) tt
-  snoop_owes slip (granted x) bus a t is agree =
-      by_reply (λ b u. Owed (feed m (snoop slip b)) u.bus) s t (snoop_state r s x) (first_reason (slip_reasons s slip to_snoop)) _ a is agree (λ e. owed) (λ none. snoop_owed slip x bus (slip_number free x slip bus none))
-  snoop_owes slip (snooped x f) bus a t is agree =
-      by_reply (λ b u. Owed (feed m (snoop slip b)) u.bus) s t s (first_reason (slip_reasons s slip to_snoop)) _ a is (subst (Agree t) (sym (same_unless (first_reason (slip_reasons s slip to_snoop)))) agree) (λ e. owed)
-      (λ none. absurd (both_ways false refl (sym (ap (λ y. bus_at y to_snoop slip.number) bus) ∙ (and_parts (eqb slip.board s.setup.board) _ (and_parts (same_stage slip.stage to_snoop) _ (not-false (of_tenure s slip to_snoop) (cleared (slip_reasons s slip to_snoop) none).0)).1).1)))
-    where
-      same_unless : (q : Option Refusal) → after_unless q s s ≡ s
-      same_unless None = refl
-      same_unless (Some e) = refl
-
-  settle_owes : (slip : Slip) (b : Bus) → s.bus ≡ b → (a : OrRefused Answer) (t : State) → a ≡ settle_on r s slip b → Agree t (settle_to r s slip b) → Owed (feed m (settle slip a)) t.bus
-  settle_owes slip free bus a t is agree = subst (Owed (feed m (settle slip a))) (sym (agree.bus ∙ bus)) tt
-  settle_owes slip (granted x) bus a t is agree = subst (Owed (feed m (settle slip a))) (sym (agree.bus ∙ bus)) tt
-  settle_owes slip (snooped x f) bus a t is agree =
-      by_reply (λ b u. Owed (feed m (settle slip b)) u.bus) s t (settle_state r s x f) (first_reason (slip_reasons s slip to_settle)) _ a is agree (λ e. owed) (λ none. by f)
-    where
-      by : (g : Found) → Owed (feed m (settle slip (Ok (settle_answer r s x f)))) (settle_state r s x g).bus
-      by own_copy = tt
-      by (read_in shared g) = tt
-      by (claimed g) = tt
-      by (unmet y z) = tt
+  after_settle : (n : TaggedMemory) (x : Tenure) (f : Found) → Owed n (settle_state r s x f).bus
+  after_settle n x f = grind arith
 
   grant_owes : (c : ℕ) (x : Option Entry) → Owed m (grant_bus s c x)
-  grant_owes c None = tt
-  grant_owes c (Some e) = tt
+  grant_owes c x = grind arith
 
   pub owed_after_call : (c : Call) (t : State) → Step r s c t → Owed (feed m c) t.bus
   owed_after_call (issue c k w v a) t step =
       by_reply (λ b u. Owed (feed m (issue c k w v b)) u.bus) s t _ (issue_refusal r s c k w v) _ a step.0 step.1 (λ e. owed)
-      (λ none. by_cond (feed m (issue c k w v (Ok (issue_answer r s c (operation_coded k) w v)))) (answers_now r s c (operation_coded k) w v) (issue_now r s c (operation_coded k) w v) (issue_later r s c (operation_coded k) w v) refl (owed_kept (feed m (issue c k w v (Ok (issue_answer r s c (operation_coded k) w v)))) s.bus was.tenure (gave_old c k w v) owed))
-    where
-      by_cond : (n : TaggedMemory) (b : Bool) (p q : State) → p.bus ≡ q.bus → Owed n p.bus → Owed n (cond b p q).bus
-      by_cond n true p q e h = h
-      by_cond n false p q e h = subst (Owed n) e h
+      (λ none.
+      let n = feed m (issue c k w v (Ok (issue_answer r s c (operation_coded k) w v))) in
+      let kept = owed_kept n s.bus was.tenure (gave_old c k w v) owed in
+      cond_both (answers_now r s c (operation_coded k) w v) _ _ (λ (u : State). Owed n u.bus) (λ _. kept) (λ _. kept))
   owed_after_call (grant c a) t step = by_reply (λ b u. Owed m u.bus) s t _ (first_reason (grant_reasons s c)) _ a step.0 step.1 (λ e. owed) (λ none. grant_owes c (oldest_ready [] (s.waiting c)))
   owed_after_call (give_back slip a) t step = by_reply (λ b u. Owed m u.bus) s t _ (first_reason (slip_reasons s slip to_snoop)) _ a step.0 step.1 (λ e. owed) (λ none. tt)
-  owed_after_call (snoop slip a) t step = snoop_owes slip s.bus refl a t step.0 step.1
-  owed_after_call (settle slip a) t step = settle_owes slip s.bus refl a t step.0 step.1
+  owed_after_call (snoop slip a) t step = by_snoop (λ b u. Owed (feed m (snoop slip b)) u.bus) r s t slip a step (λ e. owed) (snoop_owed slip)
+  owed_after_call (settle slip a) t step = by_settle (λ b u. Owed (feed m (settle slip b)) u.bus) r s t slip a step (λ e. owed) (λ x f bus. after_settle _ x f)
   owed_after_call (withdraw k a) t step = by_reply (λ b u. Owed m u.bus) s t _ (first_reason (withdraw_reasons s k)) _ a step.0 step.1 (λ e. owed) (λ none. owed)
   owed_after_call (evict c w a) t step = by_reply (λ b u. Owed m u.bus) s t _ (first_reason (evict_reasons s r c w)) _ a step.0 step.1 (λ e. owed) (λ none. owed)
   owed_after_call (drain a) t step = by_reply (λ b u. Owed m u.bus) s t _ (first_reason (drain_reasons s)) _ a step.0 step.1 (λ e. owed) (λ none. owed)
