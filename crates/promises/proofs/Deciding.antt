@@ -1,84 +1,71 @@
 -- A decided request was issued before, and the one memory gave it something.
-use Rattle.std.proofs.Common.{◌≡◌, ℕ, ◌≤◌, Bool, true, false, cond, ◌&&◌, eqb, List, [], ◌∷◌, is_some, Some, None, Ok, Err, Option, sym, refl, ap, ◌∙◌, subst, ⊎_elim, arith}
-use Rattle.std.proofs.lemmas.Bool.{cases_eq, ne_eqb, eq-eqb, and_parts, both_ways, cond-true, cond-false}
+use Rattle.std.proofs.Common.{◌≡◌, ℕ, ◌≤◌, Bool, true, cond, ◌&&◌, eqb, List, [], ◌∷◌, is_some, Ok, Err, Option, sym, refl, ap, ◌∙◌, subst, ⊎_elim, arith}
+use Rattle.std.proofs.lemmas.Bool.Decides.{nat_tests}
+use Rattle.std.proofs.lemmas.Bool.{cases_eq, and_parts, cond-true, cond_both}
 use Rattle.tagged.specs.Operations.{operation_coded}
 use Rattle.tagged.specs.declared.answers.Outcome.{Outcome}
-use Rattle.tagged.specs.declared.answers.Outcome.TheVariants.{Done, Discarded, Trap, Waits}
 use Rattle.promises.specs.Calls.{Call, issue, grant, give_back, snoop, settle, withdraw, evict, drain, look, save, tally}
 use Rattle.promises.specs.Runs.{Opening}
 use Rattle.promises.specs.OneMemory.{Note, TaggedMemory, note, serve_noted, decide, noted_gives_up, is_done, is_answer, feed, one_memory}
 use Rattle.promises.specs.Promises.{times, DecidedAfterIssue, EveryRunDecidesAfterIssue, SpeaksTrue, AllSpeakTrue}
-use Rattle.promises.proofs.Contents.{updated_same, updated_other}
+use Rattle.promises.proofs.Contents.{updated_same}
 use Rattle.promises.proofs.Counting.{one, times_cons}
 use Rattle.promises.proofs.Spoken.{run_speaks}
 
 -- deciding a request leaves what was given to others
 serves_others : (m : TaggedMemory) (k j : ℕ) (x : Option Note) → (j ≡ k → ⊥) → (serve_noted m k x).gave j ≡ m.gave j
-serves_others m k j None ne = refl
-serves_others m k j (Some x) ne = updated_other m.gave k j _ ne
+serves_others m k j x ne = grind (arith, nat_tests)
 
 pub counts_it : (m : TaggedMemory) (k : ℕ) (x : Option Note) → (serve_noted m k x).decided ≡ k ∷ m.decided
-counts_it m k None = refl
-counts_it m k (Some x) = refl
+counts_it m k x = grind arith
 
 pub one_itself : (k : ℕ) → one k k ≡ 1
-one_itself k = cond-true (eqb k k) 1 0 (eq-eqb k k refl)
+one_itself k = grind (arith, nat_tests)
 
 pub one_other : (j k : ℕ) → (j ≡ k → ⊥) → one j k ≡ 0
-one_other j k ne = cond-false (eqb j k) 1 0 (ne_eqb j k ne)
+one_other j k ne = grind (arith, nat_tests)
 
 decides : (m : TaggedMemory) (k : ℕ) (x : Option Note) → is_some ((serve_noted m k x).gave k) ≡ true → DecidedAfterIssue m → DecidedAfterIssue (serve_noted m k x)
 decides m k x here was j often =
     ⊎_elim
-    (λ same. subst (λ i. is_some ((serve_noted m k x).gave i) ≡ true) (sym same) here)
+    (λ same. grind (arith, same, here))
     (λ ne. ap is_some (serves_others m k j x ne) ∙ was j (omega (arith, subst (λ ks. 1 ≤ times j ks) (counts_it m k x) often, times_cons j k m.decided, one_other j k ne)))
     (cases_eq j k)
 
 -- a noted request is given something as it is decided
 noted_given : (m : TaggedMemory) (k : ℕ) (x : Option Note) → is_some x ≡ true → is_some ((serve_noted m k x).gave k) ≡ true
-noted_given m k None e = absurd (both_ways false refl e)
-noted_given m k (Some x) e = ap is_some (updated_same m.gave k _)
-
--- what may be decided or not
-either_way : (b : Bool) (m n : TaggedMemory) → (b ≡ true → DecidedAfterIssue m) → DecidedAfterIssue n → DecidedAfterIssue (cond b m n)
-either_way true m n h g = h refl
-either_way false m n h g = g
+noted_given m k x e = grind (arith, nat_tests)
 
 is_noted : (x : Option Note) → noted_gives_up x ≡ true → is_some x ≡ true
-is_noted None e = e
-is_noted (Some x) e = refl
+is_noted x e = grind arith
 
 done_is_answer : (x : Outcome) → is_done x ≡ true → is_answer x ≡ true
-done_is_answer Done e = refl
-done_is_answer Discarded e = refl
-done_is_answer Trap e = refl
-done_is_answer Waits e = e
+done_is_answer x e = grind arith
 
 pub when_answered : {P : Type 0} (b : Bool) → b ≡ true → cond {A = Type 0} b P (Unit {0}) → P
-when_answered true e p = p
-when_answered false e p = absurd (both_ways false refl e)
+when_answered b e p = rw e at p
 
 module _ (o : Opening) (m : TaggedMemory) (was : DecidedAfterIssue m) where
   after_call : (c : Call) → SpeaksTrue o (feed m c) c → DecidedAfterIssue (feed m c)
   after_call (issue c k w v (Ok a)) speaks =
       let noted = note m a.number (record { core = c; operation = operation_coded k; word = w; value = v }) in
-      either_way (is_answer a.outcome) (decide noted a.number) noted
+      cond_both (is_answer a.outcome) (decide noted a.number) noted DecidedAfterIssue
       (λ e. decides noted a.number (noted.noted a.number) (noted_given noted a.number (noted.noted a.number) (ap is_some (updated_same m.noted a.number _))) was)
-      was
+      (λ e. was)
   after_call (issue c k w v (Err e)) speaks = was
   after_call (grant c a) speaks = was
   after_call (give_back slip a) speaks = was
   after_call (snoop slip (Ok x)) speaks =
-      either_way (eqb x.1.kind 3 && noted_gives_up (m.noted slip.number)) (decide m slip.number) m
+      cond_both (eqb x.1.kind 3 && noted_gives_up (m.noted slip.number)) (decide m slip.number) m DecidedAfterIssue
       (λ e. decides m slip.number (m.noted slip.number) (noted_given m slip.number (m.noted slip.number) (is_noted (m.noted slip.number) (and_parts (eqb x.1.kind 3) _ e).1)) was)
-      was
+      (λ e. was)
   after_call (snoop slip (Err e)) speaks = was
   after_call (settle slip (Ok a)) speaks =
-      either_way (is_done a.outcome) (decide m a.number) m
+      cond_both (is_done a.outcome) (decide m a.number) m DecidedAfterIssue
       (λ e.
       let given = when_answered (is_answer a.outcome) (done_is_answer a.outcome e) speaks in
       decides m a.number (m.noted a.number) (ap (λ (n : TaggedMemory). is_some (n.gave a.number)) (sym (cond-true (is_done a.outcome) (decide m a.number) m e)) ∙ ap is_some given.is) was)
-      was
+      (λ e. was)
   after_call (settle slip (Err e)) speaks = was
   after_call (withdraw k a) speaks = was
   after_call (evict c w a) speaks = was

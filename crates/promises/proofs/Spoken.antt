@@ -1,53 +1,34 @@
 -- Every answer, look and save of a run is that of one tagged memory.
-use Rattle.std.proofs.Common.{◌≡◌, Bool, true, false, cond, List, [], Some, None, Option, sym, refl, ap, ◌∙◌, subst}
+use Rattle.std.proofs.Common.{◌≡◌, List, [], sym, refl, ap, ◌∙◌, subst, arith}
 use Rattle.protocol.specs.Rules.{Rules, Lawful}
 use Rattle.tagged.specs.Operations.{operation_coded}
-use Rattle.tagged.specs.declared.refusals.Refusal.{Refusal}
-use Rattle.promises.specs.Board.{Tenure, Found, own_copy, read_in, claimed, unmet, Bus, free, granted, snooped, Setup, State}
-use Rattle.promises.specs.Calls.{Slip, to_snoop, to_settle, Call, issue, grant, give_back, snoop, settle, withdraw, evict, drain, look, save, tally}
-use Rattle.promises.specs.Refusing.{first_reason, after_unless, slip_reasons, grant_reasons, withdraw_reasons, evict_reasons, drain_reasons}
-use Rattle.promises.specs.Steps.{Step, answers_now, issue_now, issue_later, issue_refusal, snoop_to, snoop_state, settle_to, settle_state}
+use Rattle.promises.specs.Board.{Tenure, Found, Setup, State}
+use Rattle.promises.specs.Calls.{to_snoop, Call, issue, grant, give_back, snoop, settle, withdraw, evict, drain, look, save, tally}
+use Rattle.promises.specs.Refusing.{first_reason, slip_reasons, grant_reasons, withdraw_reasons, evict_reasons, drain_reasons}
+use Rattle.promises.specs.Steps.{Step, answers_now, issue_refusal, settle_state}
 use Rattle.promises.specs.Runs.{Opening, opened, Ran, opens, goes_on}
 use Rattle.promises.specs.OneMemory.{one_memory}
 use Rattle.promises.specs.Promises.{AllSpeakTrue, EveryRunSpeaksTrue}
 use Rattle.promises.proofs.Coherent.{run_sound}
+use Rattle.promises.proofs.Sound.{by_reply, by_snoop, by_settle}
+use Rattle.std.proofs.lemmas.Bool.{cond_both}
 use Rattle.promises.proofs.Speaking.{Owed, owed_after_call, call_speaks}
 
 -- no call changes what a board was opened with
-unless_setup : (q : Option Refusal) (s t : State) → t.setup ≡ s.setup → (after_unless q s t).setup ≡ s.setup
-unless_setup None s t e = e
-unless_setup (Some x) s t e = refl
-
 module _ (r : Rules) (s : State) where
-  cond_setup : (b : Bool) (p q : State) → p.setup ≡ s.setup → q.setup ≡ s.setup → (cond b p q).setup ≡ s.setup
-  cond_setup true p q e f = e
-  cond_setup false p q e f = f
-
-  snoop_setup : (slip : Slip) (b : Bus) → (snoop_to r s slip b).setup ≡ s.setup
-  snoop_setup slip free = refl
-  snoop_setup slip (granted t) = unless_setup (first_reason (slip_reasons s slip to_snoop)) s (snoop_state r s t) refl
-  snoop_setup slip (snooped t f) = refl
-
-  found_setup : (t : Tenure) (f : Found) → (settle_state r s t f).setup ≡ s.setup
-  found_setup t own_copy = refl
-  found_setup t (read_in shared f) = refl
-  found_setup t (claimed f) = refl
-  found_setup t (unmet o x) = refl
-
-  settle_setup : (slip : Slip) (b : Bus) → (settle_to r s slip b).setup ≡ s.setup
-  settle_setup slip free = refl
-  settle_setup slip (granted t) = refl
-  settle_setup slip (snooped t f) = unless_setup (first_reason (slip_reasons s slip to_settle)) s (settle_state r s t f) (found_setup t f)
+  settled_setup : (t : Tenure) (f : Found) → (settle_state r s t f).setup ≡ s.setup
+  settled_setup t f = grind arith
 
   step_setup : (t : State) (c : Call) → Step r s c t → t.setup ≡ s.setup
-  step_setup t (issue c k w v a) step = step.1.setup ∙ unless_setup (issue_refusal r s c k w v) s _ (cond_setup (answers_now r s c (operation_coded k) w v) (issue_now r s c (operation_coded k) w v) (issue_later r s c (operation_coded k) w v) refl refl)
-  step_setup t (grant c a) step = step.1.setup ∙ unless_setup (first_reason (grant_reasons s c)) s _ refl
-  step_setup t (give_back slip a) step = step.1.setup ∙ unless_setup (first_reason (slip_reasons s slip to_snoop)) s _ refl
-  step_setup t (snoop slip a) step = step.1.setup ∙ snoop_setup slip s.bus
-  step_setup t (settle slip a) step = step.1.setup ∙ settle_setup slip s.bus
-  step_setup t (withdraw k a) step = step.1.setup ∙ unless_setup (first_reason (withdraw_reasons s k)) s _ refl
-  step_setup t (evict c w a) step = step.1.setup ∙ unless_setup (first_reason (evict_reasons s r c w)) s _ refl
-  step_setup t (drain a) step = step.1.setup ∙ unless_setup (first_reason (drain_reasons s)) s _ refl
+  step_setup t (issue c k w v a) step =
+      by_reply (λ b u. u.setup ≡ s.setup) s t _ (issue_refusal r s c k w v) _ a step.0 step.1 (λ e. refl) (λ none. cond_both (answers_now r s c (operation_coded k) w v) _ _ (λ (u : State). u.setup ≡ s.setup) (λ y. refl) (λ z. refl))
+  step_setup t (grant c a) step = by_reply (λ b u. u.setup ≡ s.setup) s t _ (first_reason (grant_reasons s c)) _ a step.0 step.1 (λ e. refl) (λ none. refl)
+  step_setup t (give_back slip a) step = by_reply (λ b u. u.setup ≡ s.setup) s t _ (first_reason (slip_reasons s slip to_snoop)) _ a step.0 step.1 (λ e. refl) (λ none. refl)
+  step_setup t (snoop slip a) step = by_snoop (λ b u. u.setup ≡ s.setup) r s t slip a step (λ e. refl) (λ x bus number. refl)
+  step_setup t (settle slip a) step = by_settle (λ b u. u.setup ≡ s.setup) r s t slip a step (λ e. refl) (λ x f bus. settled_setup x f)
+  step_setup t (withdraw k a) step = by_reply (λ b u. u.setup ≡ s.setup) s t _ (first_reason (withdraw_reasons s k)) _ a step.0 step.1 (λ e. refl) (λ none. refl)
+  step_setup t (evict c w a) step = by_reply (λ b u. u.setup ≡ s.setup) s t _ (first_reason (evict_reasons s r c w)) _ a step.0 step.1 (λ e. refl) (λ none. refl)
+  step_setup t (drain a) step = by_reply (λ b u. u.setup ≡ s.setup) s t _ (first_reason (drain_reasons s)) _ a step.0 step.1 (λ e. refl) (λ none. refl)
   step_setup t (look w a) step = step.1.setup
   step_setup t (save before after a) step = step.2.setup
   step_setup t (tally a) step = step.1.setup
