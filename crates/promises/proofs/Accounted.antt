@@ -1,5 +1,6 @@
 -- Every run is accounted for.
 use Rattle.std.proofs.Common.{◌≡◌, ℕ, List, [], ◌∷◌, ◌++◌, sym, refl, subst, arith}
+use Rattle.std.proofs.lemmas.List.Sums.{sum_by-append}
 use Rattle.protocol.specs.Rules.{Rules, Lawful}
 use Rattle.promises.specs.Board.{State}
 use Rattle.promises.specs.Calls.{Call, issue, grant, give_back, snoop, settle, withdraw, evict, drain, look, save, tally}
@@ -8,7 +9,7 @@ use Rattle.promises.specs.Runs.{Opening, opened, Ran, opens, goes_on}
 use Rattle.promises.specs.OneMemory.{one_memory}
 use Rattle.promises.specs.Promises.{times, list_numbers, waiting_numbers, TallyCounts, TallyIsTrue, TalliesAreTrue, Accounted, EveryRunIsAccounted}
 use Rattle.promises.proofs.Frames.{same_state_as}
-use Rattle.promises.proofs.Counting.{times_append}
+use Rattle.promises.proofs.Counting.{one}
 use Rattle.promises.proofs.Accounts.{waits_for, Accounts}
 use Rattle.promises.proofs.Adding.{issue_adds, grant_adds, give_back_adds, snoop_adds, settle_adds, withdraw_adds, evict_adds, drain_adds, look_adds, save_adds, tally_adds}
 use Rattle.promises.proofs.Sound.{Sound}
@@ -18,13 +19,13 @@ use Rattle.promises.proofs.Coherent.{run_sound}
 waiting_times : (s : State) (k : ℕ) → times k (waiting_numbers s) ≡ waits_for s k
 waiting_times s k =
     let l = list_numbers s in
-    let a = times_append k (l 0) (l 1 ++ (l 2 ++ (l 3 ++ (l 4 ++ (l 5 ++ (l 6 ++ l 7)))))) in
-    let b = times_append k (l 1) (l 2 ++ (l 3 ++ (l 4 ++ (l 5 ++ (l 6 ++ l 7))))) in
-    let c = times_append k (l 2) (l 3 ++ (l 4 ++ (l 5 ++ (l 6 ++ l 7)))) in
-    let d = times_append k (l 3) (l 4 ++ (l 5 ++ (l 6 ++ l 7))) in
-    let e = times_append k (l 4) (l 5 ++ (l 6 ++ l 7)) in
-    let f = times_append k (l 5) (l 6 ++ l 7) in
-    let g = times_append k (l 6) (l 7) in
+    let a = sum_by-append (one k) (l 0) (l 1 ++ (l 2 ++ (l 3 ++ (l 4 ++ (l 5 ++ (l 6 ++ l 7)))))) in
+    let b = sum_by-append (one k) (l 1) (l 2 ++ (l 3 ++ (l 4 ++ (l 5 ++ (l 6 ++ l 7))))) in
+    let c = sum_by-append (one k) (l 2) (l 3 ++ (l 4 ++ (l 5 ++ (l 6 ++ l 7)))) in
+    let d = sum_by-append (one k) (l 3) (l 4 ++ (l 5 ++ (l 6 ++ l 7))) in
+    let e = sum_by-append (one k) (l 4) (l 5 ++ (l 6 ++ l 7)) in
+    let f = sum_by-append (one k) (l 5) (l 6 ++ l 7) in
+    let g = sum_by-append (one k) (l 6) (l 7) in
     omega arith
 
 module _ (r : Rules) (law : Lawful r) (o : Opening) where

@@ -1,5 +1,6 @@
 -- Every accepted request is answered once, withdrawn, or waits; and the tally counts.
 use Rattle.std.proofs.Common.{◌≡◌, ℕ, ◌+◌, ◌≤◌, Bool, false, ◌⊎◌, List, ◌∷◌, ◌++◌, length, refl, ap, ◌∙◌, ⊎_elim, arith, length-append}
+use Rattle.std.proofs.lemmas.List.Sums.{sum_by-append}
 use Rattle.tagged.specs.declared.answers.Outcome.{Outcome}
 use Rattle.tagged.specs.declared.answers.Outcome.TheVariants.{Done, Discarded, Trap, Waits}
 use Rattle.promises.specs.Board.{State, Counts}
@@ -8,7 +9,7 @@ use Rattle.promises.specs.Copies.{over_cores}
 use Rattle.promises.specs.Steps.{count_outcome}
 use Rattle.promises.specs.OneMemory.{is_answer}
 use Rattle.promises.specs.Promises.{times, number_if, had_outcome, accepted_by, answered_by, withdrawn_by, over_calls}
-use Rattle.promises.proofs.Counting.{numbers, times_append}
+use Rattle.promises.proofs.Counting.{numbers, one}
 
 -- how many waiting requests have number k
 abbrev pub waits_for : State → ℕ → ℕ
@@ -59,7 +60,7 @@ pub record Adds (c : Call) (s t : State) (new : List ℕ) (x : Outcome) (j : ℕ
 
 module _ (c : Call) (h : List Call) (s t : State) (new : List ℕ) (x : Outcome) (j : ℕ) (gone : List ℕ) (was : Accounts h s) (adds : Adds c s t new x j gone) where
   grows : (f : Call → List ℕ) (xs : List ℕ) → f c ≡ xs → (k : ℕ) → times k (over_calls f (c ∷ h)) ≡ times k xs + times k (over_calls f h)
-  grows f xs e k = ap (λ l. times k (l ++ over_calls f h)) e ∙ times_append k xs (over_calls f h)
+  grows f xs e k = ap (λ l. times k (l ++ over_calls f h)) e ∙ sum_by-append (one k) xs (over_calls f h)
 
   longer : (f : Call → List ℕ) (xs : List ℕ) → f c ≡ xs → length (over_calls f (c ∷ h)) ≡ length xs + length (over_calls f h)
   longer f xs e = ap (λ l. length (l ++ over_calls f h)) e ∙ length-append xs (over_calls f h)

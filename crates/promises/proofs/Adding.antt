@@ -1,6 +1,7 @@
 -- What each call adds to the accounts.
 use Rattle.std.proofs.Common.{◌≡◌, ℕ, ◌+◌, ◌<◌, Bool, true, false, cond, not, ◌&&◌, List, [], ◌∷◌, ◌++◌, map, length, Ok, Option, sym, refl, ap, ◌∙◌, subst, inl, inr, ⊎_elim, arith}
 use Rattle.std.proofs.lemmas.Bool.{cases_eq, eq-eqb, ne_eqb, leb-false, not-false, cond_both}
+use Rattle.std.proofs.lemmas.List.Sums.{sum_by-cons}
 use Rattle.protocol.specs.Rules.{Rules, Lawful}
 use Rattle.tagged.specs.Operations.{class_of, operation_coded}
 use Rattle.tagged.specs.declared.answers.Answer.{Answer}
@@ -20,7 +21,7 @@ use Rattle.promises.specs.OneMemory.{TaggedMemory, is_answer}
 use Rattle.promises.specs.Promises.{times, number_if, accepted_by, answered_by, withdrawn_by}
 use Rattle.promises.proofs.Frames.{lowest_passes}
 use Rattle.promises.proofs.Entries.{present_numbered}
-use Rattle.promises.proofs.Counting.{Measure, measure_wake, measure_sleep, measure_add, measure_remove, over_updated, over_same, length_measure, times_measure, one, times_cons}
+use Rattle.promises.proofs.Counting.{Measure, measure_wake, measure_sleep, measure_add, measure_remove, over_updated, over_same, length_measure, times_measure, one}
 use Rattle.promises.proofs.Accounts.{Accounts, Counted, counted, Adds, accounts_more}
 use Rattle.promises.proofs.OnIssue.{answers}
 use Rattle.promises.proofs.Sound.{WaitsIn, TenureWaits, Sound, cleared, by_reply, by_snoop, by_settle}
@@ -117,7 +118,7 @@ module _ (h : List Call) (s : State) (was : Accounts h s) where
           c = counted x t.entry.number s.counts
 
           number_times : (k : ℕ) (b : Bool) → times k (number_if b t.entry.number) ≡ cond b (one k t.entry.number) 0
-          number_times k true = times_cons k t.entry.number [] ∙ omega arith
+          number_times k true = sum_by-cons (one k) t.entry.number [] ∙ omega arith
           number_times k false = refl
 
           number_length : (b : Bool) → length (number_if b t.entry.number) ≡ cond b 1 0
@@ -157,7 +158,7 @@ module _ (h : List Call) (s : State) (was : Accounts h s) where
         withdraws = refl;
         next = omega arith;
         given = λ j. inl refl;
-        waits = λ j. omega (arith, lists _ _ (times_measure j), times_cons j k []);
+        waits = λ j. omega (arith, lists _ _ (times_measure j), sum_by-cons (one j) k []);
         lengths = omega (arith, lists _ _ length_measure);
         accepted = omega arith;
         done = omega arith;
@@ -181,8 +182,8 @@ module _ (h : List Call) (s : State) (was : Accounts h s) where
           answers = λ p e. λ i. number_if (p (is i)) (number i);
           withdraws = refl;
           next = omega (arith, next);
-          given = λ j. ⊎_elim (λ same. inr (same, times_cons j s.next [] ∙ ap (λ b. cond b 1 0 + 0) (eq-eqb j s.next same), next)) (λ ne. inl (times_cons j s.next [] ∙ ap (λ b. cond b 1 0 + 0) (ne_eqb j s.next ne))) (cases_eq j s.next);
-          waits = λ j. omega (arith, lists _ _ (times_measure j), number_times j (is_answer x), times_cons j s.next []);
+          given = λ j. ⊎_elim (λ same. inr (same, sum_by-cons (one j) s.next [] ∙ ap (λ b. cond b 1 0 + 0) (eq-eqb j s.next same), next)) (λ ne. inl (sum_by-cons (one j) s.next [] ∙ ap (λ b. cond b 1 0 + 0) (ne_eqb j s.next ne))) (cases_eq j s.next);
+          waits = λ j. omega (arith, lists _ _ (times_measure j), number_times j (is_answer x), sum_by-cons (one j) s.next []);
           lengths = omega (arith, lists _ _ length_measure, number_length (is_answer x));
           accepted = omega (arith, ap (λ n. n.accepted) counts, n.accepted);
           done = omega (arith, ap (λ n. n.done) counts, n.done);
@@ -196,7 +197,7 @@ module _ (h : List Call) (s : State) (was : Accounts h s) where
         n = counted x s.next (count_accepted s.counts)
 
         number_times : (j : ℕ) (b : Bool) → times j (number_if b s.next) ≡ cond b (one j s.next) 0
-        number_times j true = times_cons j s.next [] ∙ omega arith
+        number_times j true = sum_by-cons (one j) s.next [] ∙ omega arith
         number_times j false = refl
 
         number_length : (b : Bool) → length (number_if b s.next) ≡ cond b 1 0

@@ -1,7 +1,7 @@
 -- Counts over the lists of waiting requests, by what each call adds and removes.
 use Rattle.std.proofs.Common.{◌≡◌, ℕ, ◌+◌, ◌<◌, true, cond, eqb, List, [], ◌∷◌, ◌++◌, map, length, Option, refl, arith, rules}
 use Rattle.std.proofs.lemmas.Bool.Decides.{nat_tests}
-use Rattle.std.proofs.lemmas.List.Sums.{sum_by-cons, sum_by-append}
+use Rattle.std.proofs.lemmas.List.Sums.{sum_by-cons}
 use Rattle.tagged.specs.declared.answers.Notice.{Notice}
 use Rattle.promises.specs.Board.{Entry}
 use Rattle.promises.specs.Copies.{over_cores}
@@ -48,11 +48,5 @@ numbers es = map (λ (e : Entry). e.number) es
 abbrev pub one : ℕ → ℕ → ℕ
 one k j = cond (eqb k j) 1 0
 
-pub times_cons : (k j : ℕ) (ks : List ℕ) → times k (j ∷ ks) ≡ one k j + times k ks
-times_cons k j ks = sum_by-cons _ j ks
-
-pub times_append : (k : ℕ) (xs ys : List ℕ) → times k (xs ++ ys) ≡ times k xs + times k ys
-times_append k xs ys = sum_by-append _ xs ys
-
 pub times_measure : (k : ℕ) → Measure (λ es. times k (numbers es)) (one k)
-times_measure k = record { none = refl; more = λ e es. times_cons k e.number (numbers es) }
+times_measure k = record { none = refl; more = λ e es. sum_by-cons (one k) e.number (numbers es) }

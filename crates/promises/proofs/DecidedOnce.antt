@@ -1,6 +1,7 @@
 -- No request is decided twice: what is decided was answered, or is owed to the request that has the bus.
 use Rattle.std.proofs.Common.{◌≡◌, ℕ, ◌+◌, ◌≤◌, Bool, true, false, cond, ◌&&◌, eqb, List, [], ◌∷◌, ◌++◌, Ok, Option, sym, refl, ap, ◌∙◌, subst, ⊎_elim, arith}
 use Rattle.std.proofs.lemmas.Bool.{cases_Bool, not-false, cond-true, cond-false, cond_both}
+use Rattle.std.proofs.lemmas.List.Sums.{sum_by-cons, sum_by-append}
 use Rattle.protocol.specs.Rules.{Rules, Lawful}
 use Rattle.tagged.specs.Operations.{class_of, operation_coded, claims}
 use Rattle.tagged.specs.Rule.{unmet_outcome}
@@ -15,7 +16,7 @@ use Rattle.promises.specs.Runs.{Opening, Ran, opens, goes_on}
 use Rattle.promises.specs.OneMemory.{TaggedMemory, note, decide, noted_gives_up, is_done, is_answer, feed, one_memory}
 use Rattle.promises.specs.Promises.{times, number_if, answered_by, over_calls, EveryRunDecidesOnce}
 use Rattle.promises.proofs.Entries.{present_numbered}
-use Rattle.promises.proofs.Counting.{one, times_cons, times_append, times_measure, over_updated, measure_remove, numbers}
+use Rattle.promises.proofs.Counting.{one, times_measure, over_updated, measure_remove, numbers}
 use Rattle.promises.proofs.Accounts.{waits_for}
 use Rattle.promises.proofs.Accounted.{run_accounts}
 use Rattle.promises.proofs.Coherent.{run_sound}
@@ -58,8 +59,8 @@ module _ (r : Rules) (h : List Call) (m : TaggedMemory) (s : State) (sound : Sou
       let noted = note m a.number (record { core = c; operation = operation_coded k; word = w; value = v }) in
       let b = is_answer a.outcome in
       let now : times j (feed m (issue c k w v (Ok a))).decided ≡ times j (number_if b a.number ++ m.decided) = ap (times j) (decided_if b (decide noted a.number) noted a.number m.decided (counts_it noted a.number (noted.noted a.number)) refl) in
-      let lhs = times_append j (number_if b a.number) m.decided in
-      let rhs = times_append j (number_if b a.number) (over_calls (answered_by is_answer) h) in
+      let lhs = sum_by-append (one j) (number_if b a.number) m.decided in
+      let rhs = sum_by-append (one j) (number_if b a.number) (over_calls (answered_by is_answer) h) in
       omega (arith, now, lhs, rhs, was j)
 
   -- SNOOP
@@ -93,7 +94,7 @@ module _ (r : Rules) (h : List Call) (m : TaggedMemory) (s : State) (sound : Sou
     snooped_balanced k =
         let now = ap (times k) (decided_if deciding (decide m slip.number) m slip.number m.decided (counts_it m slip.number (m.noted slip.number)) refl) in
         let none : owed k s.bus ≡ 0 = ap (owed k) bus in
-        omega (arith, now, times_append k (number_if deciding slip.number) m.decided, found_owed k, none, was k)
+        omega (arith, now, sum_by-append (one k) (number_if deciding slip.number) m.decided, found_owed k, none, was k)
 
   -- SETTLE
   settled : (slip : Slip) (t : Tenure) (f : Found) → s.bus ≡ snooped t f → Balanced (settle slip (Ok (settle_answer r s t f)) ∷ h) (feed m (settle slip (Ok (settle_answer r s t f)))) (settle_state r s t f).bus
@@ -103,7 +104,7 @@ module _ (r : Rules) (h : List Call) (m : TaggedMemory) (s : State) (sound : Sou
       done : (k : ℕ) → times k m.decided ≡ times k (over_calls (answered_by is_answer) h) + 0 → times k (decide m t.entry.number).decided ≡ times k (t.entry.number ∷ over_calls (answered_by is_answer) h) + 0
       done k before =
           let now = ap (times k) (counts_it m t.entry.number (m.noted t.entry.number)) in
-          omega (arith, now, times_cons k t.entry.number m.decided, times_cons k t.entry.number (over_calls (answered_by is_answer) h), before)
+          omega (arith, now, sum_by-cons (one k) t.entry.number m.decided, sum_by-cons (one k) t.entry.number (over_calls (answered_by is_answer) h), before)
 
       by : (g : Found) → Balanced h m (snooped t g) → FoundTrue r m.word s t g → Balanced (settle slip (Ok (settle_answer r s t g)) ∷ h) (feed m (settle slip (Ok (settle_answer r s t g)))) (settle_state r s t g).bus
       by own_copy before true_found k = done k (before k)
@@ -111,7 +112,7 @@ module _ (r : Rules) (h : List Call) (m : TaggedMemory) (s : State) (sound : Sou
       by (claimed g) before true_found k = done k (before k)
       by (unmet o x) before undone k =
           let now : times k (feed m (settle slip (Ok (settle_answer r s t (unmet o x))))).decided ≡ times k m.decided = ap (λ (n : TaggedMemory). times k n.decided) (cond-false (is_done o) (decide m t.entry.number) m undone) in
-          omega (arith, now, times_append k (number_if (is_answer o) t.entry.number) (over_calls (answered_by is_answer) h), before k)
+          omega (arith, now, sum_by-append (one k) (number_if (is_answer o) t.entry.number) (over_calls (answered_by is_answer) h), before k)
 
   pub call_balanced : (c : Call) (t : State) → Step r s c t → Balanced (c ∷ h) (feed m c) t.bus
   call_balanced (issue c k w v a) t step =
@@ -149,7 +150,7 @@ owed_waits s (snooped t (claimed f)) k here = omega arith
 owed_waits s (snooped t (unmet o x)) k here = by (is_answer o)
   where
     by : (b : Bool) → times k (number_if b t.entry.number) ≤ waits_for s k
-    by true = omega (arith, times_cons k t.entry.number [], tenure_counts s t k here)
+    by true = omega (arith, sum_by-cons (one k) t.entry.number [], tenure_counts s t k here)
     by false = omega arith
 
 module _ (r : Rules) (law : Lawful r) (o : Opening) where

@@ -2,6 +2,7 @@
 use Rattle.std.proofs.Common.{◌≡◌, ℕ, ◌≤◌, Bool, true, cond, ◌&&◌, eqb, List, [], ◌∷◌, is_some, Ok, Err, Option, sym, refl, ap, ◌∙◌, subst, ⊎_elim, arith}
 use Rattle.std.proofs.lemmas.Bool.Decides.{nat_tests}
 use Rattle.std.proofs.lemmas.Bool.{cases_eq, and_parts, cond-true, cond_both}
+use Rattle.std.proofs.lemmas.List.Sums.{sum_by-cons}
 use Rattle.tagged.specs.Operations.{operation_coded}
 use Rattle.tagged.specs.declared.answers.Outcome.{Outcome}
 use Rattle.promises.specs.Calls.{Call, issue, grant, give_back, snoop, settle, withdraw, evict, drain, look, save, tally}
@@ -9,7 +10,7 @@ use Rattle.promises.specs.Runs.{Opening}
 use Rattle.promises.specs.OneMemory.{Note, TaggedMemory, note, serve_noted, decide, noted_gives_up, is_done, is_answer, feed, one_memory}
 use Rattle.promises.specs.Promises.{times, DecidedAfterIssue, EveryRunDecidesAfterIssue, SpeaksTrue, AllSpeakTrue}
 use Rattle.promises.proofs.Contents.{updated_same}
-use Rattle.promises.proofs.Counting.{one, times_cons}
+use Rattle.promises.proofs.Counting.{one}
 use Rattle.promises.proofs.Spoken.{run_speaks}
 
 -- deciding a request leaves what was given to others
@@ -29,7 +30,7 @@ decides : (m : TaggedMemory) (k : ℕ) (x : Option Note) → is_some ((serve_not
 decides m k x here was j often =
     ⊎_elim
     (λ same. grind (arith, same, here))
-    (λ ne. ap is_some (serves_others m k j x ne) ∙ was j (omega (arith, subst (λ ks. 1 ≤ times j ks) (counts_it m k x) often, times_cons j k m.decided, one_other j k ne)))
+    (λ ne. ap is_some (serves_others m k j x ne) ∙ was j (omega (arith, subst (λ ks. 1 ≤ times j ks) (counts_it m k x) often, sum_by-cons (one j) k m.decided, one_other j k ne)))
     (cases_eq j k)
 
 -- a noted request is given something as it is decided

@@ -2,6 +2,7 @@
 use Rattle.std.proofs.Common.{◌≡◌, ℕ, ◌<◌, ◌≤◌, Bool, true, false, cond, not, ◌&&◌, eqb, ◌⊎◌, List, [], ◌∷◌, ◌++◌, Some, None, Ok, Option, sym, refl, ap, ◌∙◌, subst, inl, inr, ⊎_elim, arith}
 use Rattle.std.proofs.lemmas.Bool.Decides.{nat_tests}
 use Rattle.std.proofs.lemmas.Bool.{cases_eq, not-true, and_parts, cond-true}
+use Rattle.std.proofs.lemmas.List.Sums.{sum_by-cons}
 use Rattle.protocol.specs.Rules.{Rules, Lawful}
 use Rattle.tagged.specs.Operations.{class_of, operation_coded}
 use Rattle.tagged.specs.declared.answers.Outcome.TheVariants.{Waits}
@@ -17,7 +18,7 @@ use Rattle.promises.specs.OneMemory.{Note, TaggedMemory, note, serve_noted, deci
 use Rattle.promises.specs.Promises.{times, EveryEntry, InIssueOrder, IsDecidedOnce, EveryRunDecidesInIssueOrder}
 use Rattle.promises.proofs.Contents.{updated_same, updated_other}
 use Rattle.promises.proofs.Frames.{same_state_as}
-use Rattle.promises.proofs.Counting.{times_cons}
+use Rattle.promises.proofs.Counting.{one}
 use Rattle.promises.proofs.Entries.{every_weaker, every_both, every_append}
 use Rattle.promises.proofs.Rising.{Rising, Each, Within, within_same, within_then, within_wake, within_sleep, within_without, rising_append, ready_oldest}
 use Rattle.promises.proofs.Ordering.{At, OldestOnWord, Oldest, Earlier, Ordered, order_same, fewer_wait, oldest_within, oldest_kept, tenure_decided}
@@ -165,7 +166,7 @@ module _ (r : Rules) (m : TaggedMemory) (s : State) (sound : Sound r m s) (was :
         decided = counts_it noting s.next (noting.noted s.next)
 
         before : (j : ℕ) → (j ≡ s.next → ⊥) → 1 ≤ times j (decide noting s.next).decided → 1 ≤ times j m.decided
-        before j ne often = omega (arith, subst (λ ks. 1 ≤ times j ks) decided often, times_cons j s.next m.decided, one_other j s.next ne)
+        before j ne often = omega (arith, subst (λ ks. 1 ≤ times j ks) decided often, sum_by-cons (one j) s.next m.decided, one_other j s.next ne)
 
         mine_at : (d x j : ℕ) → j ≡ s.next → At d x ((decide noting s.next).noted j) → (c ≡ d) × (w ≡ x)
         mine_at d x j same at = subst (At d x) (ap (decide noting s.next).noted same ∙ ap (λ f. f s.next) notes ∙ updated_same m.noted s.next _) at

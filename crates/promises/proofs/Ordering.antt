@@ -1,10 +1,11 @@
 -- Requests of one core on one word are decided in the order of their issue.
 use Rattle.std.proofs.Common.{◌≡◌, ℕ, ◌<◌, ◌≤◌, List, [], ◌∷◌, Some, None, Option, sym, ap, ◌∙◌, subst, ⊎_elim, arith}
 use Rattle.std.proofs.lemmas.Bool.{cases_eq}
+use Rattle.std.proofs.lemmas.List.Sums.{sum_by-cons}
 use Rattle.promises.specs.Board.{Entry, Tenure, Bus, free, granted, snooped, State}
 use Rattle.promises.specs.OneMemory.{Note, TaggedMemory}
 use Rattle.promises.specs.Promises.{times, SamePlace, InIssueOrder, IsDecidedOnce}
-use Rattle.promises.proofs.Counting.{times_cons}
+use Rattle.promises.proofs.Counting.{one}
 use Rattle.promises.proofs.Entries.{every_weaker, every_both, every_present}
 use Rattle.promises.proofs.Rising.{Rising, Each, Within}
 use Rattle.promises.proofs.Sound.{note_of, Noted, WaitsIn}
@@ -43,8 +44,8 @@ pub record Ordered (m : TaggedMemory) (s : State) : Type 0 where
 pub order_same : (m n : TaggedMemory) (ks : List ℕ) → ((j : ℕ) → 1 ≤ times j ks → n.noted j ≡ m.noted j) → InIssueOrder m ks → InIssueOrder n ks
 order_same m n [] same h = tt
 order_same m n (k ∷ ks) same h = (
-  (λ j often place. h.0 j often (subst (λ y. SamePlace y (m.noted k)) (same j (omega (arith, often, times_cons j k ks))) (subst (SamePlace (n.noted j)) (same k (omega (arith, times_cons k k ks, one_itself k))) place))),
-  order_same m n ks (λ j often. same j (omega (arith, often, times_cons j k ks))) h.1,
+  (λ j often place. h.0 j often (subst (λ y. SamePlace y (m.noted k)) (same j (omega (arith, often, sum_by-cons (one j) k ks))) (subst (SamePlace (n.noted j)) (same k (omega (arith, sum_by-cons (one k) k ks, one_itself k))) place))),
+  order_same m n ks (λ j often. same j (omega (arith, often, sum_by-cons (one j) k ks))) h.1,
 )
 
 -- fewer requests wait, and nothing more is decided
@@ -79,7 +80,7 @@ tenure_decided m n s t here noted old notes decided once was = record {
     k = t.entry.number
 
     before : (j : ℕ) → (j ≡ t.entry.number → ⊥) → 1 ≤ times j n.decided → 1 ≤ times j m.decided
-    before j ne often = omega (arith, subst (λ ks. 1 ≤ times j ks) decided often, times_cons j t.entry.number m.decided, one_other j t.entry.number ne)
+    before j ne often = omega (arith, subst (λ ks. 1 ≤ times j ks) decided often, sum_by-cons (one j) t.entry.number m.decided, one_other j t.entry.number ne)
 
     later : (c : ℕ) (e : Entry) → Earlier m c e.number e.word × (t.core ≡ c → t.entry.word ≡ e.word → t.entry.number ≤ e.number) → Earlier n c e.number e.word
     later c e h j often at =
@@ -93,6 +94,6 @@ tenure_decided m n s t here noted old notes decided once was = record {
         let at = same_at (n.noted j) (note_of t.core t.entry) (subst (SamePlace (n.noted j)) (ap (λ f. f t.entry.number) notes ∙ noted.note) place) in
         let most = every_present (λ e. Earlier m t.core e.number e.word) t.entry (s.waiting t.core) (λ e same h i often at. omega (arith, same.number, h i often (subst (λ w. At t.core w (m.noted i)) same.word at))) (was.earlier t.core) here.present j often (subst (At t.core t.entry.word) (ap (λ f. f j) notes) at) in
         ⊎_elim
-        (λ same. absurd (let twice = subst (λ ks. times t.entry.number ks ≤ 1) decided (once t.entry.number) in let again = subst (λ i. 1 ≤ times i m.decided) same often in omega (arith, twice, times_cons t.entry.number t.entry.number m.decided, one_itself t.entry.number, again)))
+        (λ same. absurd (let twice = subst (λ ks. times t.entry.number ks ≤ 1) decided (once t.entry.number) in let again = subst (λ i. 1 ≤ times i m.decided) same often in omega (arith, twice, sum_by-cons (one t.entry.number) t.entry.number m.decided, one_itself t.entry.number, again)))
         (λ ne. omega (arith, most, ne))
         (cases_eq j t.entry.number)

@@ -1,6 +1,7 @@
 -- The promises refuse false histories and states.
 use Rattle.std.proofs.Common.{◌≡◌, ℕ, true, false, cond, List, [], ◌∷◌, ◌++◌, Some, Ok, sym, ap, ◌∙◌, subst, arith}
 use Rattle.std.proofs.lemmas.Bool.{both_ways, and_parts}
+use Rattle.std.proofs.lemmas.List.Sums.{sum_by-cons}
 use Rattle.protocol.specs.Rules.{Rules}
 use Rattle.tagged.specs.Rule.{met}
 use Rattle.tagged.specs.declared.rule.Served.{Served}
@@ -11,7 +12,7 @@ use Rattle.promises.specs.OneMemory.{decide, is_done, is_answer, feed, one_memor
 use Rattle.promises.specs.Promises.{EveryEntry, InIssueOrder}
 use Rattle.promises.specs.Refuted.{FalseIsRefused, PromisesTellTrueFromFalse}
 use Rattle.promises.specs.Runs.{Opening}
-use Rattle.promises.proofs.Counting.{times_cons}
+use Rattle.promises.proofs.Counting.{one}
 use Rattle.promises.proofs.Deciding.{one_itself, when_answered}
 use Rattle.promises.proofs.Example.{example_ran}
 
@@ -49,7 +50,7 @@ refuted r o = record {
   );
   decisions_swapped = λ j k ks h decided place less s kept.
       let order = subst (InIssueOrder (one_memory o.memory h)) decided kept.decided_in_issue_order in
-      let earlier = order.0 k (omega (arith, times_cons k k ks, one_itself k)) place in
+      let earlier = order.0 k (omega (arith, sum_by-cons (one k) k ks, one_itself k)) place in
       omega (arith, less, earlier);
   two_writers = λ c d n h s other first second kept. other (sym (kept.writers_are_alone c d n first (owner_keeps r s d n second)));
   unequal_copies = λ c d n h s first second other kept. other (kept.copies_are_equal c d n first second);
