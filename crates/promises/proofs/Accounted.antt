@@ -1,5 +1,5 @@
 -- Every run is accounted for.
-use Rattle.std.proofs.Common.{◌≡◌, ℕ, List, [], ◌∷◌, ◌++◌, sym, refl, subst, arith}
+use Rattle.std.proofs.Common.{◌≡◌, ℕ, List, [], ◌∷◌, sym, refl, subst, arith}
 use Rattle.std.proofs.lemmas.List.Sums.{sum_by-append}
 use Rattle.protocol.specs.Rules.{Rules, Lawful}
 use Rattle.promises.specs.Board.{State}
@@ -7,7 +7,7 @@ use Rattle.promises.specs.Calls.{Call, issue, grant, give_back, snoop, settle, w
 use Rattle.promises.specs.Steps.{Step}
 use Rattle.promises.specs.Runs.{Opening, opened, Ran, opens, goes_on}
 use Rattle.promises.specs.OneMemory.{one_memory}
-use Rattle.promises.specs.Promises.{times, list_numbers, waiting_numbers, TallyCounts, TallyIsTrue, TalliesAreTrue, Accounted, EveryRunIsAccounted}
+use Rattle.promises.specs.Promises.{times, waiting_numbers, TallyCounts, TallyIsTrue, TalliesAreTrue, Accounted, EveryRunIsAccounted}
 use Rattle.promises.proofs.Frames.{same_state_as}
 use Rattle.promises.proofs.Counting.{one}
 use Rattle.promises.proofs.Accounts.{waits_for, Accounts}
@@ -17,16 +17,7 @@ use Rattle.promises.proofs.Coherent.{run_sound}
 
 -- a number waits as often as it stands in the lists
 waiting_times : (s : State) (k : ℕ) → times k (waiting_numbers s) ≡ waits_for s k
-waiting_times s k =
-    let l = list_numbers s in
-    let a = sum_by-append (one k) (l 0) (l 1 ++ (l 2 ++ (l 3 ++ (l 4 ++ (l 5 ++ (l 6 ++ l 7)))))) in
-    let b = sum_by-append (one k) (l 1) (l 2 ++ (l 3 ++ (l 4 ++ (l 5 ++ (l 6 ++ l 7))))) in
-    let c = sum_by-append (one k) (l 2) (l 3 ++ (l 4 ++ (l 5 ++ (l 6 ++ l 7)))) in
-    let d = sum_by-append (one k) (l 3) (l 4 ++ (l 5 ++ (l 6 ++ l 7))) in
-    let e = sum_by-append (one k) (l 4) (l 5 ++ (l 6 ++ l 7)) in
-    let f = sum_by-append (one k) (l 5) (l 6 ++ l 7) in
-    let g = sum_by-append (one k) (l 6) (l 7) in
-    omega arith
+waiting_times s k = simp (sum_by-append (one k)) (omega arith)
 
 module _ (r : Rules) (law : Lawful r) (o : Opening) where
   opening_accounts : Accounts [] (opened o)

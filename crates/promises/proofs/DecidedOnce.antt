@@ -1,9 +1,9 @@
 -- No request is decided twice: what is decided was answered, or is owed to the request that has the bus.
 use Rattle.std.proofs.Common.{◌≡◌, ℕ, ◌+◌, ◌≤◌, Bool, true, false, cond, ◌&&◌, eqb, List, [], ◌∷◌, ◌++◌, Ok, Option, sym, refl, ap, ◌∙◌, subst, ⊎_elim, arith}
-use Rattle.std.proofs.lemmas.Bool.{cases_Bool, not-false, cond-true, cond-false, cond_both}
+use Rattle.std.proofs.lemmas.Bool.{cases_Bool, not-false, cond-false, cond_both}
 use Rattle.std.proofs.lemmas.List.Sums.{sum_by-cons, sum_by-append}
 use Rattle.protocol.specs.Rules.{Rules, Lawful}
-use Rattle.tagged.specs.Operations.{class_of, operation_coded, claims}
+use Rattle.tagged.specs.Operations.{class_of, operation_coded}
 use Rattle.tagged.specs.Rule.{unmet_outcome}
 use Rattle.tagged.specs.declared.answers.Answer.{Answer}
 use Rattle.tagged.specs.declared.operations.Class.{Class}
@@ -11,7 +11,7 @@ use Rattle.promises.specs.Board.{Entry, Tenure, Found, own_copy, read_in, claime
 use Rattle.promises.specs.Calls.{to_snoop, Slip, Call, issue, grant, give_back, snoop, settle, withdraw, evict, drain, look, save, tally}
 use Rattle.promises.specs.Lists.{without, oldest_ready}
 use Rattle.promises.specs.Refusing.{first_reason, is_free, bus_at, grant_reasons, slip_reasons, withdraw_reasons, evict_reasons, drain_reasons}
-use Rattle.promises.specs.Steps.{Step, gives_up, grant_bus, own_suffices, snoop_met, snoop_word, snoop_kind, snoop_found, settle_state, settle_answer, answers_now, issue_answer, issue_refusal}
+use Rattle.promises.specs.Steps.{Step, gives_up, grant_bus, snoop_met, snoop_word, snoop_kind, snoop_found, settle_state, settle_answer, answers_now, issue_answer, issue_refusal}
 use Rattle.promises.specs.Runs.{Opening, Ran, opens, goes_on}
 use Rattle.promises.specs.OneMemory.{TaggedMemory, note, decide, noted_gives_up, is_done, is_answer, feed, one_memory}
 use Rattle.promises.specs.Promises.{times, number_if, answered_by, over_calls, EveryRunDecidesOnce}
@@ -68,26 +68,12 @@ module _ (r : Rules) (h : List Call) (m : TaggedMemory) (s : State) (sound : Sou
     abbrev deciding : Bool
     deciding = eqb (snoop_kind r s t) 3 && noted_gives_up (m.noted slip.number)
 
-    none_decided : (k j : ℕ) → snoop_kind r s t ≡ j → eqb j 3 ≡ false → times k (number_if deciding slip.number) ≡ 0
-    none_decided k j e f = ap (λ b. times k (number_if (b && noted_gives_up (m.noted slip.number)) slip.number)) (ap (λ i. eqb i 3) e ∙ f)
-
     found_owed : (k : ℕ) → times k (number_if deciding slip.number) ≡ owed k (snooped t (snoop_found r s t))
     found_owed k =
+        let noted = (tenure_noted r m s t sound (subst (TenureWaits s) bus sound.tenure)).note in
         ⊎_elim
-        (λ y.
-        ⊎_elim
-        (λ o. none_decided k 0 (cond-true _ _ _ y ∙ cond-true _ _ _ o) refl ∙ sym (ap (λ f. owed k (snooped t f)) (cond-true _ _ _ y ∙ cond-true _ _ _ o)))
-        (λ o.
-        ⊎_elim
-        (λ c. none_decided k 2 (cond-true _ _ _ y ∙ cond-false _ _ _ o ∙ cond-true _ _ _ c) refl ∙ sym (ap (λ f. owed k (snooped t f)) (cond-true _ _ _ y ∙ cond-false _ _ _ o ∙ cond-true _ _ _ c)))
-        (λ c. none_decided k 1 (cond-true _ _ _ y ∙ cond-false _ _ _ o ∙ cond-false _ _ _ c) refl ∙ sym (ap (λ f. owed k (snooped t f)) (cond-true _ _ _ y ∙ cond-false _ _ _ o ∙ cond-false _ _ _ c)))
-        (cases_Bool (claims t.entry.operation)))
-        (cases_Bool (own_suffices r s t)))
-        (λ n.
-        let class = class_of t.entry.operation in
-        let noted = ap m.noted number ∙ (tenure_noted r m s t sound (subst (TenureWaits s) bus sound.tenure)).note in
-        let same : deciding ≡ is_answer (unmet_outcome class) = ap (λ i. eqb i 3 && noted_gives_up (m.noted slip.number)) (cond-false (snoop_met r s t) _ _ n) ∙ ap noted_gives_up noted ∙ sym (answers_gives_up class (unmet_undone t.entry.operation (snoop_word r s t).state n)) in
-        (λ i. times k (number_if (same i) (number i))) ∙ sym (ap (λ f. owed k (snooped t f)) (cond-false (snoop_met r s t) _ _ n)))
+        (λ y. grind arith)
+        (λ n. grind (arith, number, noted, answers_gives_up (class_of t.entry.operation) (unmet_undone t.entry.operation (snoop_word r s t).state n)))
         (cases_Bool (snoop_met r s t))
 
     snooped_balanced : Balanced h (cond deciding (decide m slip.number) m) (snooped t (snoop_found r s t))
@@ -142,16 +128,7 @@ tenure_counts s t k here =
     omega (arith, over_updated F s.waiting t.core (without t.entry.number (s.waiting t.core)) here.core, measure_remove (times_measure k) t.entry.number (s.waiting t.core) (present_numbered t.entry (s.waiting t.core) here.present))
 
 owed_waits : (s : State) (b : Bus) (k : ℕ) → TenureWaits s b → owed k b ≤ waits_for s k
-owed_waits s free k here = omega arith
-owed_waits s (granted t) k here = omega arith
-owed_waits s (snooped t own_copy) k here = omega arith
-owed_waits s (snooped t (read_in shared f)) k here = omega arith
-owed_waits s (snooped t (claimed f)) k here = omega arith
-owed_waits s (snooped t (unmet o x)) k here = by (is_answer o)
-  where
-    by : (b : Bool) → times k (number_if b t.entry.number) ≤ waits_for s k
-    by true = omega (arith, sum_by-cons (one k) t.entry.number [], tenure_counts s t k here)
-    by false = omega arith
+owed_waits s b k here = grind (arith, tenure_counts s)
 
 module _ (r : Rules) (law : Lawful r) (o : Opening) where
   run_balanced : (h : List Call) (s : State) → Ran r o h s → Balanced h (one_memory o.memory h) s.bus

@@ -1,5 +1,5 @@
 -- A decided request was issued before, and the one memory gave it something.
-use Rattle.std.proofs.Common.{◌≡◌, ℕ, ◌≤◌, Bool, true, cond, ◌&&◌, eqb, List, [], ◌∷◌, is_some, Ok, Err, Option, sym, refl, ap, ◌∙◌, subst, ⊎_elim, arith}
+use Rattle.std.proofs.Common.{◌≡◌, ℕ, Bool, true, cond, ◌&&◌, eqb, List, [], ◌∷◌, is_some, Ok, Err, Option, sym, refl, ap, ◌∙◌, ⊎_elim, arith}
 use Rattle.std.proofs.lemmas.Bool.Decides.{nat_tests}
 use Rattle.std.proofs.lemmas.Bool.{cases_eq, and_parts, cond-true, cond_both}
 use Rattle.std.proofs.lemmas.List.Sums.{sum_by-cons}
@@ -30,7 +30,7 @@ decides : (m : TaggedMemory) (k : ℕ) (x : Option Note) → is_some ((serve_not
 decides m k x here was j often =
     ⊎_elim
     (λ same. grind (arith, same, here))
-    (λ ne. ap is_some (serves_others m k j x ne) ∙ was j (omega (arith, subst (λ ks. 1 ≤ times j ks) (counts_it m k x) often, sum_by-cons (one j) k m.decided, one_other j k ne)))
+    (λ ne. ap is_some (serves_others m k j x ne) ∙ was j (grind (arith, nat_tests, counts_it m k x, sum_by-cons (one j) k m.decided)))
     (cases_eq j k)
 
 -- a noted request is given something as it is decided

@@ -25,7 +25,7 @@ use Rattle.promises.proofs.Ordering.{At, OldestOnWord, Oldest, Earlier, Ordered,
 use Rattle.promises.proofs.OnIssue.{answers}
 use Rattle.promises.proofs.Sound.{Noted, WaitsIn, TenureWaits, Sound, tenure_noted, by_reply, by_snoop, by_settle}
 use Rattle.promises.proofs.Coherent.{run_sound}
-use Rattle.promises.proofs.Deciding.{counts_it, one_other}
+use Rattle.promises.proofs.Deciding.{counts_it}
 use Rattle.promises.proofs.DecidedOnce.{decides_once}
 
 every_one : (P : Entry → Type 0) → ((e : Entry) → P e) → (es : List Entry) → EveryEntry P es
@@ -166,7 +166,7 @@ module _ (r : Rules) (m : TaggedMemory) (s : State) (sound : Sound r m s) (was :
         decided = counts_it noting s.next (noting.noted s.next)
 
         before : (j : ℕ) → (j ≡ s.next → ⊥) → 1 ≤ times j (decide noting s.next).decided → 1 ≤ times j m.decided
-        before j ne often = omega (arith, subst (λ ks. 1 ≤ times j ks) decided often, sum_by-cons (one j) s.next m.decided, one_other j s.next ne)
+        before j ne often = grind (arith, nat_tests, decided, sum_by-cons (one j) s.next m.decided)
 
         mine_at : (d x j : ℕ) → j ≡ s.next → At d x ((decide noting s.next).noted j) → (c ≡ d) × (w ≡ x)
         mine_at d x j same at = subst (At d x) (ap (decide noting s.next).noted same ∙ ap (λ f. f s.next) notes ∙ updated_same m.noted s.next _) at

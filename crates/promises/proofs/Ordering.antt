@@ -1,5 +1,6 @@
 -- Requests of one core on one word are decided in the order of their issue.
 use Rattle.std.proofs.Common.{◌≡◌, ℕ, ◌<◌, ◌≤◌, List, [], ◌∷◌, Some, None, Option, sym, ap, ◌∙◌, subst, ⊎_elim, arith}
+use Rattle.std.proofs.lemmas.Bool.Decides.{nat_tests}
 use Rattle.std.proofs.lemmas.Bool.{cases_eq}
 use Rattle.std.proofs.lemmas.List.Sums.{sum_by-cons}
 use Rattle.promises.specs.Board.{Entry, Tenure, Bus, free, granted, snooped, State}
@@ -9,7 +10,7 @@ use Rattle.promises.proofs.Counting.{one}
 use Rattle.promises.proofs.Entries.{every_weaker, every_both, every_present}
 use Rattle.promises.proofs.Rising.{Rising, Each, Within}
 use Rattle.promises.proofs.Sound.{note_of, Noted, WaitsIn}
-use Rattle.promises.proofs.Deciding.{one_other, one_itself}
+use Rattle.promises.proofs.Deciding.{one_itself}
 
 -- a note of core c on word w
 abbrev pub At : ℕ → ℕ → Option Note → Type 0
@@ -44,7 +45,7 @@ pub record Ordered (m : TaggedMemory) (s : State) : Type 0 where
 pub order_same : (m n : TaggedMemory) (ks : List ℕ) → ((j : ℕ) → 1 ≤ times j ks → n.noted j ≡ m.noted j) → InIssueOrder m ks → InIssueOrder n ks
 order_same m n [] same h = tt
 order_same m n (k ∷ ks) same h = (
-  (λ j often place. h.0 j often (subst (λ y. SamePlace y (m.noted k)) (same j (omega (arith, often, sum_by-cons (one j) k ks))) (subst (SamePlace (n.noted j)) (same k (omega (arith, sum_by-cons (one k) k ks, one_itself k))) place))),
+  (λ j often place. grind (arith, nat_tests, h.0 j often, same j, same k, sum_by-cons (one j) k ks, sum_by-cons (one k) k ks)),
   order_same m n ks (λ j often. same j (omega (arith, often, sum_by-cons (one j) k ks))) h.1,
 )
 
@@ -80,7 +81,7 @@ tenure_decided m n s t here noted old notes decided once was = record {
     k = t.entry.number
 
     before : (j : ℕ) → (j ≡ t.entry.number → ⊥) → 1 ≤ times j n.decided → 1 ≤ times j m.decided
-    before j ne often = omega (arith, subst (λ ks. 1 ≤ times j ks) decided often, sum_by-cons (one j) t.entry.number m.decided, one_other j t.entry.number ne)
+    before j ne often = grind (arith, nat_tests, decided, sum_by-cons (one j) t.entry.number m.decided)
 
     later : (c : ℕ) (e : Entry) → Earlier m c e.number e.word × (t.core ≡ c → t.entry.word ≡ e.word → t.entry.number ≤ e.number) → Earlier n c e.number e.word
     later c e h j often at =

@@ -1,26 +1,22 @@
 -- The promises refuse false histories and states.
-use Rattle.std.proofs.Common.{◌≡◌, ℕ, true, false, cond, List, [], ◌∷◌, ◌++◌, Some, Ok, sym, ap, ◌∙◌, subst, arith}
-use Rattle.std.proofs.lemmas.Bool.{both_ways, and_parts}
+use Rattle.std.proofs.Common.{◌≡◌, true, false, cond, List, [], ◌∷◌, ◌++◌, Ok, sym, ap, ◌∙◌, subst, arith}
+use Rattle.std.proofs.lemmas.Option.{same_Some}
+use Rattle.std.proofs.lemmas.Bool.Decides.{nat_tests}
+use Rattle.std.proofs.lemmas.Bool.{both_ways}
 use Rattle.std.proofs.lemmas.List.Sums.{sum_by-cons}
 use Rattle.protocol.specs.Rules.{Rules}
 use Rattle.tagged.specs.Rule.{met}
 use Rattle.tagged.specs.declared.rule.Served.{Served}
-use Rattle.promises.specs.Board.{Entry, State}
+use Rattle.promises.specs.Board.{Entry}
 use Rattle.promises.specs.Calls.{settle}
-use Rattle.promises.specs.Copies.{keeps, owns}
 use Rattle.promises.specs.OneMemory.{decide, is_done, is_answer, feed, one_memory}
 use Rattle.promises.specs.Promises.{EveryEntry, InIssueOrder}
 use Rattle.promises.specs.Refuted.{FalseIsRefused, PromisesTellTrueFromFalse}
 use Rattle.promises.specs.Runs.{Opening}
+use Rattle.promises.proofs.Copies.{owns_keeps}
 use Rattle.promises.proofs.Counting.{one}
-use Rattle.promises.proofs.Deciding.{one_itself, when_answered}
+use Rattle.promises.proofs.Deciding.{when_answered}
 use Rattle.promises.proofs.Example.{example_ran}
-
-some_same : {x y : Served} → Some x ≡ Some y → x ≡ y
-some_same p = cc
-
-owner_keeps : (r : Rules) (s : State) (c n : ℕ) → owns r s c n ≡ true → keeps r s c n ≡ true
-owner_keeps r s c n e = (and_parts (keeps r s c n) _ e).0
 
 -- what holds of every entry holds of each
 among : (P : Entry → Type 0) (es : List Entry) (e : Entry) (fs : List Entry) → EveryEntry P (es ++ e ∷ fs) → P e
@@ -34,7 +30,7 @@ refuted r o = record {
       let x = when_answered (is_answer a.outcome) answers kept.all_speak_true.0 in
       let y = when_answered (is_answer b.outcome) (ap is_answer outcome ∙ answers) broken.all_speak_true.0 in
       let fed : feed m (settle slip (Ok b)) ≡ feed m (settle slip (Ok a)) = λ i. cond (is_done (outcome i)) (decide m (number i)) m in
-      let same : y.given ≡ x.given = some_same (sym y.is ∙ (λ i. (fed i).gave (number i)) ∙ x.is) in
+      let same : y.given ≡ x.given = same_Some _ _ (sym y.is ∙ (λ i. (fed i).gave (number i)) ∙ x.is) in
       other (y.value ∙ ap (λ (z : Served). z.value) same ∙ sym x.value);
   answered_twice = λ k h often s kept. omega (arith, often, kept.requests_are_accounted k, kept.numbers_are_given_once k);
   number_given_twice = λ k h often s kept. omega (arith, often, kept.numbers_are_given_once k);
@@ -50,9 +46,9 @@ refuted r o = record {
   );
   decisions_swapped = λ j k ks h decided place less s kept.
       let order = subst (InIssueOrder (one_memory o.memory h)) decided kept.decided_in_issue_order in
-      let earlier = order.0 k (omega (arith, sum_by-cons (one k) k ks, one_itself k)) place in
+      let earlier = order.0 k (grind (arith, nat_tests, sum_by-cons (one k) k ks)) place in
       omega (arith, less, earlier);
-  two_writers = λ c d n h s other first second kept. other (sym (kept.writers_are_alone c d n first (owner_keeps r s d n second)));
+  two_writers = λ c d n h s other first second kept. other (sym (kept.writers_are_alone c d n first (owns_keeps r s d n second)));
   unequal_copies = λ c d n h s first second other kept. other (kept.copies_are_equal c d n first second);
   ready_sleeper = λ c e older younger h s list asleep ready kept.
       let m = one_memory o.memory h in
