@@ -1,15 +1,16 @@
 -- Every accepted request is answered once, withdrawn, or waits; and the tally counts.
-use Rattle.std.proofs.Common.{◌≡◌, ℕ, ◌+◌, ◌≤◌, Bool, false, ◌⊎◌, List, ◌∷◌, ◌++◌, length, refl, ap, ◌∙◌, ⊎_elim, arith, length-append}
-use Rattle.std.proofs.lemmas.List.Sums.{sum_by-append}
+use Rattle.std.proofs.Common.{◌≡◌, ℕ, ◌+◌, ◌≤◌, Bool, false, ◌⊎◌, List, ◌∷◌, ◌++◌, length, refl, ap, ◌∙◌, ⊎_elim, arith, length-append, []}
+use Rattle.std.proofs.lemmas.List.Sums.{sum_by-cons, sum_by-append}
 use Rattle.tagged.specs.declared.answers.Outcome.{Outcome}
 use Rattle.tagged.specs.declared.answers.Outcome.TheVariants.{Done, Discarded, Trap, Waits}
-use Rattle.promises.specs.Board.{State, Counts}
+use Rattle.promises.specs.Board.{Entry, State, Counts}
 use Rattle.promises.specs.Calls.{Call}
 use Rattle.promises.specs.Copies.{over_cores}
-use Rattle.promises.specs.Steps.{count_outcome}
+use Rattle.promises.specs.Steps.{count_outcome, count_accepted}
 use Rattle.promises.specs.OneMemory.{is_answer}
 use Rattle.promises.specs.Promises.{times, number_if, had_outcome, accepted_by, answered_by, withdrawn_by, over_calls}
-use Rattle.promises.proofs.Counting.{numbers, one}
+use Rattle.promises.proofs.Counting.{numbers, one, Measure, length_measure, times_measure}
+use Rattle.std.specs.List.{sum_by}
 
 -- how many waiting requests have number k
 abbrev pub waits_for : State → ℕ → ℕ
@@ -29,17 +30,20 @@ pub record Accounts (h : List Call) (s : State) : Type 0 where
   pub withdrawn : s.counts.withdrawn ≡ length (over_calls withdrawn_by h)
   pub sum : s.counts.accepted ≡ s.counts.done + s.counts.discarded + s.counts.trapped + s.counts.withdrawn + wait_count s
 
--- what an outcome adds to the counts
-pub record Counted (x : Outcome) (k : ℕ) (before after : Counts) : Type 0 where
-  pub accepted : after.accepted ≡ before.accepted
+-- what a call adds to the counts: accepted numbers, an answer to request k with outcome x, withdrawn numbers
+pub record Counted (new : List ℕ) (x : Outcome) (k : ℕ) (gone : List ℕ) (before after : Counts) : Type 0 where
+  pub accepted : after.accepted ≡ length new + before.accepted
   pub done : after.done ≡ length (number_if (had_outcome Done x) k) + before.done
   pub discarded : after.discarded ≡ length (number_if (had_outcome Discarded x) k) + before.discarded
   pub trapped : after.trapped ≡ length (number_if (had_outcome Trap x) k) + before.trapped
-  pub withdrawn : after.withdrawn ≡ before.withdrawn
+  pub withdrawn : after.withdrawn ≡ length gone + before.withdrawn
   pub sum : after.done + after.discarded + after.trapped ≡ length (number_if (is_answer x) k) + (before.done + before.discarded + before.trapped)
 
-pub counted : (x : Outcome) (k : ℕ) (n : Counts) → Counted x k n (count_outcome x n)
+pub counted : (x : Outcome) (k : ℕ) (n : Counts) → Counted [] x k [] n (count_outcome x n)
 counted x k n = grind arith
+
+pub counted_new : (x : Outcome) (k : ℕ) (n : Counts) → Counted (k ∷ []) x k [] n (count_outcome x (count_accepted n))
+counted_new x k n = grind arith
 
 -- what a call adds: accepted numbers, an answer to request j with outcome x, withdrawn numbers
 pub record Adds (c : Call) (s t : State) (new : List ℕ) (x : Outcome) (j : ℕ) (gone : List ℕ) : Type 0 where
@@ -49,14 +53,13 @@ pub record Adds (c : Call) (s t : State) (new : List ℕ) (x : Outcome) (j : ℕ
   pub next : s.next ≤ t.next
   -- an accepted number is the next one
   pub given : (k : ℕ) → (times k new ≡ 0) ⊎ ((k ≡ s.next) × (times k new ≡ 1) × (t.next ≡ s.next + 1))
-  pub waits : (k : ℕ) → waits_for t k + times k (number_if (is_answer x) j) + times k gone ≡ waits_for s k + times k new
-  pub lengths : wait_count t + length (number_if (is_answer x) j) + length gone ≡ wait_count s + length new
-  pub accepted : t.counts.accepted ≡ s.counts.accepted + length new
-  pub done : t.counts.done ≡ length (number_if (had_outcome Done x) j) + s.counts.done
-  pub discarded : t.counts.discarded ≡ length (number_if (had_outcome Discarded x) j) + s.counts.discarded
-  pub trapped : t.counts.trapped ≡ length (number_if (had_outcome Trap x) j) + s.counts.trapped
-  pub withdrawn : t.counts.withdrawn ≡ length gone + s.counts.withdrawn
-  pub sum : t.counts.done + t.counts.discarded + t.counts.trapped ≡ length (number_if (is_answer x) j) + (s.counts.done + s.counts.discarded + s.counts.trapped)
+  -- by every count over the lists
+  pub lists : (F : List Entry → ℕ) (a : ℕ → ℕ) → Measure F a → over_cores (λ c. F (t.waiting c)) + sum_by a (number_if (is_answer x) j) + sum_by a gone ≡ over_cores (λ c. F (s.waiting c)) + sum_by a new
+  pub counts : Counted new x j gone s.counts t.counts
+
+sum_ones : (ks : List ℕ) → sum_by (λ _. 1) ks ≡ length ks
+sum_ones [] = refl
+sum_ones (k ∷ ks) = omega (arith, sum_by-cons (λ (_ : ℕ). 1) k ks, sum_ones ks)
 
 module _ (c : Call) (h : List Call) (s t : State) (new : List ℕ) (x : Outcome) (j : ℕ) (gone : List ℕ) (was : Accounts h s) (adds : Adds c s t new x j gone) where
   grows : (f : Call → List ℕ) (xs : List ℕ) → f c ≡ xs → (k : ℕ) → times k (over_calls f (c ∷ h)) ≡ times k xs + times k (over_calls f h)
@@ -67,15 +70,15 @@ module _ (c : Call) (h : List Call) (s t : State) (new : List ℕ) (x : Outcome)
 
   pub accounts_more : Accounts (c ∷ h) t
   accounts_more = record {
-    account = λ k. omega (arith, grows accepted_by new adds.accepts k, grows (answered_by is_answer) (number_if (is_answer x) j) (adds.answers is_answer refl) k, grows withdrawn_by gone adds.withdraws k, was.account k, adds.waits k);
+    account = λ k. omega (arith, grows accepted_by new adds.accepts k, grows (answered_by is_answer) (number_if (is_answer x) j) (adds.answers is_answer refl) k, grows withdrawn_by gone adds.withdraws k, was.account k, adds.lists _ _ (times_measure k));
     fresh = λ k past.
         ⊎_elim (λ none. omega (arith, grows accepted_by new adds.accepts k, was.fresh k (omega (arith, adds.next)))) (λ p. absurd (omega (arith, p.0, p.2))) (adds.given k);
     once = λ k.
         ⊎_elim (λ none. omega (arith, grows accepted_by new adds.accepts k, was.once k)) (λ p. omega (arith, grows accepted_by new adds.accepts k, was.fresh k (omega (arith, p.0)), p.1)) (adds.given k);
-    accepted = omega (arith, longer accepted_by new adds.accepts, was.accepted, adds.accepted);
-    done = omega (arith, longer (answered_by (had_outcome Done)) _ (adds.answers (had_outcome Done) refl), was.done, adds.done);
-    discarded = omega (arith, longer (answered_by (had_outcome Discarded)) _ (adds.answers (had_outcome Discarded) refl), was.discarded, adds.discarded);
-    trapped = omega (arith, longer (answered_by (had_outcome Trap)) _ (adds.answers (had_outcome Trap) refl), was.trapped, adds.trapped);
-    withdrawn = omega (arith, longer withdrawn_by gone adds.withdraws, was.withdrawn, adds.withdrawn);
-    sum = omega (arith, was.sum, adds.sum, adds.lengths, adds.accepted, adds.withdrawn);
+    accepted = omega (arith, longer accepted_by new adds.accepts, was.accepted, adds.counts.accepted);
+    done = omega (arith, longer (answered_by (had_outcome Done)) _ (adds.answers (had_outcome Done) refl), was.done, adds.counts.done);
+    discarded = omega (arith, longer (answered_by (had_outcome Discarded)) _ (adds.answers (had_outcome Discarded) refl), was.discarded, adds.counts.discarded);
+    trapped = omega (arith, longer (answered_by (had_outcome Trap)) _ (adds.answers (had_outcome Trap) refl), was.trapped, adds.counts.trapped);
+    withdrawn = omega (arith, longer withdrawn_by gone adds.withdraws, was.withdrawn, adds.counts.withdrawn);
+    sum = omega (arith, was.sum, adds.counts.sum, adds.lists _ _ length_measure, sum_ones (number_if (is_answer x) j), sum_ones gone, sum_ones new, adds.counts.accepted, adds.counts.withdrawn);
   }

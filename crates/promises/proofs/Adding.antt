@@ -1,6 +1,7 @@
 -- What each call adds to the accounts.
-use Rattle.std.proofs.Common.{◌≡◌, ℕ, ◌+◌, ◌<◌, Bool, true, false, cond, not, ◌&&◌, List, [], ◌∷◌, ◌++◌, map, length, Ok, Option, sym, refl, ap, ◌∙◌, subst, inl, inr, ⊎_elim, arith}
-use Rattle.std.proofs.lemmas.Bool.{cases_eq, eq-eqb, ne_eqb, leb-false, not-false, cond_both}
+use Rattle.std.proofs.Common.{◌≡◌, ℕ, ◌+◌, ◌<◌, Bool, true, cond, not, ◌&&◌, List, [], ◌∷◌, ◌++◌, map, Ok, Option, sym, refl, ap, ◌∙◌, subst, inl, arith}
+use Rattle.std.proofs.lemmas.Bool.Decides.{nat_tests}
+use Rattle.std.proofs.lemmas.Bool.{not-false, cond_both}
 use Rattle.std.proofs.lemmas.List.Sums.{sum_by-cons}
 use Rattle.protocol.specs.Rules.{Rules, Lawful}
 use Rattle.tagged.specs.Operations.{class_of, operation_coded}
@@ -15,20 +16,24 @@ use Rattle.promises.specs.Board.{Entry, Tenure, Found, own_copy, read_in, claime
 use Rattle.promises.specs.Calls.{to_snoop, Slip, SnoopReport, Tally, OrRefused, Call, issue, grant, give_back, snoop, settle, withdraw, evict, drain, look, save, tally}
 use Rattle.promises.specs.Copies.{over_cores, any_core}
 use Rattle.promises.specs.Lists.{any_entry, numbered, without, put_to_sleep, wake, woken}
-use Rattle.promises.specs.Refusing.{first_reason, grant_reasons, slip_reasons, issue_reasons, withdraw_reasons, evict_reasons, drain_reasons}
-use Rattle.promises.specs.Steps.{Step, updated, answer_undone, answer_served, in_reach, own_met, snoop_met, waits, snoop_state, settle_state, settle_answer, answers_now, issue_served, issue_now, issue_later, issue_refusal, holder, withdrawn_state, count_outcome, count_accepted}
+use Rattle.promises.specs.Refusing.{first_reason, grant_reasons, slip_reasons, withdraw_reasons, evict_reasons, drain_reasons}
+use Rattle.promises.specs.Steps.{Step, updated, answer_undone, answer_served, in_reach, own_met, snoop_met, waits, snoop_state, settle_state, settle_answer, answers_now, issue_served, issue_now, issue_later, holder, withdrawn_state, count_outcome, count_accepted}
 use Rattle.promises.specs.OneMemory.{TaggedMemory, is_answer}
-use Rattle.promises.specs.Promises.{times, number_if, accepted_by, answered_by, withdrawn_by}
+use Rattle.promises.specs.Promises.{number_if, accepted_by, answered_by, withdrawn_by}
+use Rattle.std.specs.List.{sum_by}
 use Rattle.promises.proofs.Frames.{lowest_passes}
 use Rattle.promises.proofs.Entries.{present_numbered}
-use Rattle.promises.proofs.Counting.{Measure, measure_wake, measure_sleep, measure_add, measure_remove, over_updated, over_same, length_measure, times_measure, one}
-use Rattle.promises.proofs.Accounts.{Accounts, Counted, counted, Adds, accounts_more}
+use Rattle.promises.proofs.Counting.{Measure, measure_wake, measure_sleep, measure_add, measure_remove, over_updated, over_same, one}
+use Rattle.promises.proofs.Accounts.{Accounts, counted, counted_new, Adds, accounts_more}
 use Rattle.promises.proofs.OnIssue.{answers}
-use Rattle.promises.proofs.Sound.{WaitsIn, TenureWaits, Sound, cleared, by_reply, by_snoop, by_settle}
+use Rattle.promises.proofs.Sound.{WaitsIn, TenureWaits, Sound, cleared, by_reply, by_issue, by_snoop, by_settle}
 
 -- the lists have as many requests as before, by every count
 abbrev ListsSame : State → State → Type 0
 ListsSame s t = (F : List Entry → ℕ) (a : ℕ → ℕ) → Measure F a → over_cores (λ c. F (t.waiting c)) ≡ over_cores (λ c. F (s.waiting c))
+
+sum_number : (a : ℕ → ℕ) (b : Bool) (k : ℕ) → sum_by a (number_if b k) ≡ cond b (a k) 0
+sum_number a b k = grind (arith, sum_by-cons a k [])
 
 -- a call that accepts, answers and withdraws nothing
 nothing_added : (c : Call) (s t : State) → accepted_by c ≡ [] → ((p : Outcome → Bool) → answered_by p c ≡ []) → withdrawn_by c ≡ [] → t.next ≡ s.next → t.counts ≡ s.counts → ListsSame s t → Adds c s t [] Waits 0 []
@@ -38,14 +43,8 @@ nothing_added c s t new ans gone next counts lists = record {
   withdraws = gone;
   next = omega (arith, next);
   given = λ k. inl refl;
-  waits = λ k. omega (arith, lists _ _ (times_measure k));
-  lengths = omega (arith, lists _ _ length_measure);
-  accepted = omega (arith, ap (λ n. n.accepted) counts);
-  done = omega (arith, ap (λ n. n.done) counts);
-  discarded = omega (arith, ap (λ n. n.discarded) counts);
-  trapped = omega (arith, ap (λ n. n.trapped) counts);
-  withdrawn = omega (arith, ap (λ n. n.withdrawn) counts);
-  sum = omega (arith, ap (λ n. n.done) counts, ap (λ n. n.discarded) counts, ap (λ n. n.trapped) counts);
+  lists = λ F a m. omega (arith, lists F a m);
+  counts = rw counts (counted Waits 0 s.counts);
 }
 
 module _ (h : List Call) (s : State) (was : Accounts h s) where
@@ -104,26 +103,9 @@ module _ (h : List Call) (s : State) (was : Accounts h s) where
             withdraws = refl;
             next = omega (arith, next);
             given = λ k. inl refl;
-            waits = λ k. omega (arith, lists _ _ (times_measure k), number_times k (is_answer x));
-            lengths = omega (arith, lists _ _ length_measure, number_length (is_answer x));
-            accepted = omega (arith, ap (λ n. n.accepted) counts, c.accepted);
-            done = omega (arith, ap (λ n. n.done) counts, c.done);
-            discarded = omega (arith, ap (λ n. n.discarded) counts, c.discarded);
-            trapped = omega (arith, ap (λ n. n.trapped) counts, c.trapped);
-            withdrawn = omega (arith, ap (λ n. n.withdrawn) counts, c.withdrawn);
-            sum = omega (arith, ap (λ n. n.done) counts, ap (λ n. n.discarded) counts, ap (λ n. n.trapped) counts, c.sum);
+            lists = λ F a m. omega (arith, lists F a m, sum_number a (is_answer x) t.entry.number);
+            counts = rw counts (counted x t.entry.number s.counts);
           })
-        where
-          c : Counted x t.entry.number s.counts (count_outcome x s.counts)
-          c = counted x t.entry.number s.counts
-
-          number_times : (k : ℕ) (b : Bool) → times k (number_if b t.entry.number) ≡ cond b (one k t.entry.number) 0
-          number_times k true = sum_by-cons (one k) t.entry.number [] ∙ omega arith
-          number_times k false = refl
-
-          number_length : (b : Bool) → length (number_if b t.entry.number) ≡ cond b 1 0
-          number_length true = refl
-          number_length false = refl
 
       woken_left : (n : Option Notice) (F : List Entry → ℕ) (a : ℕ → ℕ) → Measure F a → over_cores (λ c. F (map (wake n t.entry.word) (updated s.waiting t.core (without t.entry.number (s.waiting t.core)) c))) + a t.entry.number ≡ over_cores (λ c. F (s.waiting c))
       woken_left n F a m = ap (λ x. x + a t.entry.number) (over_same _ _ (λ c. measure_wake m n t.entry.word (updated s.waiting t.core (without t.entry.number (s.waiting t.core)) c))) ∙ left F a m
@@ -132,10 +114,13 @@ module _ (h : List Call) (s : State) (was : Accounts h s) where
       settled own_copy = answered Done (settle_state r s t own_copy) (settle_answer r s t own_copy) refl refl refl refl (woken_left _)
       settled (read_in shared f) = answered Done (settle_state r s t (read_in shared f)) (settle_answer r s t (read_in shared f)) refl refl refl refl (woken_left _)
       settled (claimed f) = answered Done (settle_state r s t (claimed f)) (settle_answer r s t (claimed f)) refl refl refl refl (woken_left _)
-      settled (unmet Done x) = answered Done (settle_state r s t (unmet Done x)) (settle_answer r s t (unmet Done x)) refl refl refl refl left
-      settled (unmet Discarded x) = answered Discarded (settle_state r s t (unmet Discarded x)) (settle_answer r s t (unmet Discarded x)) refl refl refl refl left
-      settled (unmet Trap x) = answered Trap (settle_state r s t (unmet Trap x)) (settle_answer r s t (unmet Trap x)) refl refl refl refl left
-      settled (unmet Waits x) = answered Waits (settle_state r s t (unmet Waits x)) (settle_answer r s t (unmet Waits x)) refl refl refl refl (λ F a m. omega arith)
+      settled (unmet x z) = answered x (settle_state r s t (unmet x z)) (settle_answer r s t (unmet x z)) refl refl refl refl (unmet_left x)
+        where
+          unmet_left : (x : Outcome) (F : List Entry → ℕ) (a : ℕ → ℕ) → Measure F a → over_cores (λ c. F ((settle_state r s t (unmet x z)).waiting c)) + cond (is_answer x) (a t.entry.number) 0 ≡ over_cores (λ c. F (s.waiting c))
+          unmet_left Done F a m = left F a m
+          unmet_left Discarded F a m = left F a m
+          unmet_left Trap F a m = left F a m
+          unmet_left Waits F a m = omega arith
 
     pub settle_adds : TenureWaits s s.bus → (a : OrRefused Answer) (t : State) → Step r s (settle slip a) t → Accounts (settle slip a ∷ h) t
     settle_adds here a t step =
@@ -158,14 +143,8 @@ module _ (h : List Call) (s : State) (was : Accounts h s) where
         withdraws = refl;
         next = omega arith;
         given = λ j. inl refl;
-        waits = λ j. omega (arith, lists _ _ (times_measure j), sum_by-cons (one j) k []);
-        lengths = omega (arith, lists _ _ length_measure);
-        accepted = omega arith;
-        done = omega arith;
-        discarded = omega arith;
-        trapped = omega arith;
-        withdrawn = omega arith;
-        sum = omega arith;
+        lists = λ F a m. omega (arith, lists F a m, sum_by-cons a k []);
+        counts = grind arith;
       }))
 
   -- ISSUE
@@ -182,27 +161,10 @@ module _ (h : List Call) (s : State) (was : Accounts h s) where
           answers = λ p e. λ i. number_if (p (is i)) (number i);
           withdraws = refl;
           next = omega (arith, next);
-          given = λ j. ⊎_elim (λ same. inr (same, sum_by-cons (one j) s.next [] ∙ ap (λ b. cond b 1 0 + 0) (eq-eqb j s.next same), next)) (λ ne. inl (sum_by-cons (one j) s.next [] ∙ ap (λ b. cond b 1 0 + 0) (ne_eqb j s.next ne))) (cases_eq j s.next);
-          waits = λ j. omega (arith, lists _ _ (times_measure j), number_times j (is_answer x), sum_by-cons (one j) s.next []);
-          lengths = omega (arith, lists _ _ length_measure, number_length (is_answer x));
-          accepted = omega (arith, ap (λ n. n.accepted) counts, n.accepted);
-          done = omega (arith, ap (λ n. n.done) counts, n.done);
-          discarded = omega (arith, ap (λ n. n.discarded) counts, n.discarded);
-          trapped = omega (arith, ap (λ n. n.trapped) counts, n.trapped);
-          withdrawn = omega (arith, ap (λ n. n.withdrawn) counts, n.withdrawn);
-          sum = omega (arith, ap (λ n. n.done) counts, ap (λ n. n.discarded) counts, ap (λ n. n.trapped) counts, n.sum);
+          given = λ j. grind (arith, nat_tests, sum_by-cons (one j) s.next []);
+          lists = λ F a m. omega (arith, lists F a m, sum_number a (is_answer x) s.next, sum_by-cons a s.next []);
+          counts = rw counts (counted_new x s.next s.counts);
         })
-      where
-        n : Counted x s.next (count_accepted s.counts) (count_outcome x (count_accepted s.counts))
-        n = counted x s.next (count_accepted s.counts)
-
-        number_times : (j : ℕ) (b : Bool) → times j (number_if b s.next) ≡ cond b (one j s.next) 0
-        number_times j true = sum_by-cons (one j) s.next [] ∙ omega arith
-        number_times j false = refl
-
-        number_length : (b : Bool) → length (number_if b s.next) ≡ cond b 1 0
-        number_length true = refl
-        number_length false = refl
 
     later : c < 8 → Accounts (issue c k w v (Ok (answer_undone s.next Waits Empty)) ∷ h) (issue_later r s c o w v)
     later core =
@@ -218,12 +180,4 @@ module _ (h : List Call) (s : State) (was : Accounts h s) where
         (λ F a x. ap (λ b. over_cores (λ d. F ((issue_now r s c o w v).waiting d)) + cond b (a s.next) 0) (answers r law m s sound c o w v y) ∙ ap (λ z. z + a s.next) (over_same _ _ (λ d. measure_wake x (issue_served r s c o w v).notice w (s.waiting d))))
 
     pub issue_adds : (a : OrRefused Answer) (t : State) → Step r s (issue c k w v a) t → Accounts (issue c k w v a ∷ h) t
-    issue_adds a t step =
-        by_reply (λ b u. Accounts (issue c k w v b ∷ h) u) s t _ (issue_refusal r s c k w v) _ a step.0 step.1 (λ e. unchanged _ s refl (λ p. refl) refl refl refl (λ d. refl))
-        (λ none.
-        let clear = cleared (issue_reasons s (not (answers_now r s c o w v)) c k w) none in
-        by_cond (answers_now r s c o w v) _ _ _ _ (λ b u. Accounts (issue c k w v (Ok b) ∷ h) u) now (λ z. later (omega (arith, leb-false s.setup.cores c clear.0, sound.few_cores))))
-      where
-        by_cond : (b : Bool) (x y : Answer) (p q : State) (P : Answer → State → Type 0) → (b ≡ true → P x p) → (b ≡ false → P y q) → P (cond b x y) (cond b p q)
-        by_cond true x y p q P f g = f refl
-        by_cond false x y p q P f g = g refl
+    issue_adds a t step = by_issue (λ b u. Accounts (issue c k w v b ∷ h) u) r s t c k w v a step (λ e. unchanged _ s refl (λ p. refl) refl refl refl (λ d. refl)) now (λ core. later (omega (arith, sound.few_cores)))

@@ -1,14 +1,18 @@
 -- What every run keeps of copies, bus and lists, beside the one tagged memory m.
-use Rattle.std.proofs.Common.{◌≡◌, ℕ, ◌%◌, ◌<◌, ◌≤◌, true, false, [], ◌∷◌, Some, None, Ok, Err, Option, sym, refl, ap, ◌∙◌, subst, arith}
+use Rattle.std.proofs.Common.{◌≡◌, ℕ, ◌%◌, ◌<◌, ◌≤◌, Bool, true, false, cond, [], ◌∷◌, Some, None, Ok, Err, Option, sym, refl, ap, ◌∙◌, subst, arith, leb-false}
 use Rattle.std.proofs.lemmas.Bool.{eqb-true, both_ways}
 use Rattle.protocol.specs.Rules.{Rules}
 use Rattle.tagged.specs.declared.refusals.Refusal.{Refusal}
 use Rattle.tagged.specs.declared.words.Word.{Word}
 use Rattle.tagged.specs.declared.answers.Answer.{Answer}
 use Rattle.promises.specs.Board.{Frame, Entry, Tenure, Found, Bus, free, granted, snooped, State}
-use Rattle.promises.specs.Calls.{Stage, to_snoop, to_settle, Slip, SnoopReport, OrRefused, snoop, settle}
-use Rattle.promises.specs.Refusing.{Reasons, first_reason, reply_unless, after_unless, bus_at, slip_reasons}
-use Rattle.promises.specs.Steps.{Agree, Step, snoop_report, snoop_state, snoop_on, snoop_to, settle_answer, settle_state, settle_on, settle_to}
+use Rattle.promises.specs.Calls.{Stage, to_snoop, to_settle, Slip, SnoopReport, OrRefused, issue, snoop, settle}
+use Rattle.promises.specs.Refusing.{Reasons, first_reason, reply_unless, after_unless, bus_at, issue_reasons, slip_reasons}
+use Rattle.promises.specs.Lists.{woken}
+use Rattle.tagged.specs.Operations.{operation_coded}
+use Rattle.tagged.specs.declared.answers.Outcome.TheVariants.{Waits}
+use Rattle.tagged.specs.declared.words.WordState.TheVariants.{Empty}
+use Rattle.promises.specs.Steps.{Agree, Step, answer_undone, answer_served, answers_now, issue_served, issue_now, issue_later, issue_refusal, snoop_report, snoop_state, snoop_on, snoop_to, settle_answer, settle_state, settle_on, settle_to}
 use Rattle.promises.specs.OneMemory.{Note, TaggedMemory}
 use Rattle.promises.specs.Promises.{EveryEntry}
 use Rattle.promises.proofs.Frames.{keeps_same, same_state_as}
@@ -90,6 +94,16 @@ cleared (p ∷ ps) e = grind (arith, cleared ps)
 pub by_reply : {A : Type 0} (P : OrRefused A → State → Type 0) (s t after : State) (q : Option Refusal) (x : A) (a : OrRefused A) → a ≡ reply_unless q x → Agree t (after_unless q s after) → ((e : Refusal) → P (Err e) s) → (q ≡ None → P (Ok x) after) → P a t
 by_reply P s t after None x a is agree refused accepted = subst (λ b. P b t) (sym is) (subst (P (Ok x)) (sym (same_state_as agree)) (accepted refl))
 by_reply P s t after (Some e) x a is agree refused accepted = subst (λ b. P b t) (sym is) (subst (P (Err e)) (sym (same_state_as agree)) (refused e))
+
+-- an issue, by whether it is refused, answered at once or put into the list
+pub by_issue : (P : OrRefused Answer → State → Type 0) (r : Rules) (s t : State) (c k w v : ℕ) (a : OrRefused Answer) → Step r s (issue c k w v a) t → ((e : Refusal) → P (Err e) s) → (answers_now r s c (operation_coded k) w v ≡ true → P (Ok (answer_served s.next (issue_served r s c (operation_coded k) w v) (woken s (issue_served r s c (operation_coded k) w v).notice w))) (issue_now r s c (operation_coded k) w v)) → (c < s.setup.cores → P (Ok (answer_undone s.next Waits Empty)) (issue_later r s c (operation_coded k) w v)) → P a t
+by_issue P r s t c k w v a step refused now later =
+    by_reply P s t _ (issue_refusal r s c k w v) _ a step.0 step.1 refused
+    (λ none. by (answers_now r s c (operation_coded k) w v) _ _ _ _ now (λ z. later (leb-false s.setup.cores c (cleared (issue_reasons s _ c k w) none).0)))
+  where
+    by : (b : Bool) (x y : Answer) (p q : State) → (b ≡ true → P (Ok x) p) → (b ≡ false → P (Ok y) q) → P (Ok (cond b x y)) (cond b p q)
+    by true x y p q first second = first refl
+    by false x y p q first second = second refl
 
 -- an accepted slip is of the tenure that the bus has
 pub at_bus : (s : State) (slip : Slip) (stage : Stage) → first_reason (slip_reasons s slip stage) ≡ None → bus_at s.bus stage slip.number ≡ true
