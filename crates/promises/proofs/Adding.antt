@@ -15,9 +15,9 @@ use Rattle.tagged.specs.declared.words.WordState.TheVariants.{Empty}
 use Rattle.promises.specs.Board.{Entry, Tenure, Found, own_copy, read_in, claimed, unmet, State}
 use Rattle.promises.specs.Calls.{to_snoop, Slip, SnoopReport, Tally, OrRefused, Call, issue, grant, give_back, snoop, settle, withdraw, evict, drain, look, save, tally}
 use Rattle.promises.specs.Copies.{over_cores, any_core}
-use Rattle.promises.specs.Lists.{any_entry, numbered, without, put_to_sleep, wake, woken}
+use Rattle.promises.specs.Lists.{any_entry, numbered, without, put_to_sleep, wake}
 use Rattle.promises.specs.Refusing.{first_reason, grant_reasons, slip_reasons, withdraw_reasons, evict_reasons, drain_reasons}
-use Rattle.promises.specs.Steps.{Step, updated, answer_undone, answer_served, in_reach, own_met, snoop_met, waits, snoop_state, settle_state, settle_answer, answers_now, issue_served, issue_now, issue_later, holder, withdrawn_state, count_outcome, count_accepted}
+use Rattle.promises.specs.Steps.{Step, updated, answer_undone, in_reach, own_met, snoop_met, waits, snoop_state, settle_state, settle_answer, answers_now, issue_served, issue_now, issue_later, holder, withdrawn_state, count_outcome, count_accepted}
 use Rattle.promises.specs.OneMemory.{TaggedMemory, is_answer}
 use Rattle.promises.specs.Promises.{number_if, accepted_by, answered_by, withdrawn_by}
 use Rattle.std.specs.List.{sum_by}
@@ -26,7 +26,7 @@ use Rattle.promises.proofs.Entries.{present_numbered}
 use Rattle.promises.proofs.Counting.{Measure, measure_wake, measure_sleep, measure_add, measure_remove, over_updated, over_same, one}
 use Rattle.promises.proofs.Accounts.{Accounts, counted, counted_new, Adds, accounts_more}
 use Rattle.promises.proofs.OnIssue.{answers}
-use Rattle.promises.proofs.Sound.{WaitsIn, TenureWaits, Sound, cleared, by_reply, by_issue, by_snoop, by_settle}
+use Rattle.promises.proofs.Sound.{WaitsIn, TenureWaits, Sound, answer_now, cleared, by_reply, by_issue, by_snoop, by_settle}
 
 -- the lists have as many requests as before, by every count
 abbrev ListsSame : State → State → Type 0
@@ -174,7 +174,7 @@ module _ (h : List Call) (s : State) (was : Accounts h s) where
         entry : Entry
         entry = record { number = s.next; operation = o; word = w; value = v; asleep = in_reach r s c o w v && not (own_met r s c o w v) }
 
-    now : answers_now r s c o w v ≡ true → Accounts (issue c k w v (Ok (answer_served s.next (issue_served r s c o w v) (woken s (issue_served r s c o w v).notice w))) ∷ h) (issue_now r s c o w v)
+    now : answers_now r s c o w v ≡ true → Accounts (issue c k w v (Ok (answer_now r s c o w v)) ∷ h) (issue_now r s c o w v)
     now y =
         accepted_now (issue_served r s c o w v).outcome (issue_now r s c o w v) _ refl refl refl refl
         (λ F a x. ap (λ b. over_cores (λ d. F ((issue_now r s c o w v).waiting d)) + cond b (a s.next) 0) (answers r law m s sound c o w v y) ∙ ap (λ z. z + a s.next) (over_same _ _ (λ d. measure_wake x (issue_served r s c o w v).notice w (s.waiting d))))

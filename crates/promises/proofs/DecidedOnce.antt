@@ -1,17 +1,17 @@
 -- No request is decided twice: what is decided was answered, or is owed to the request that has the bus.
 use Rattle.std.proofs.Common.{◌≡◌, ℕ, ◌+◌, ◌≤◌, Bool, true, false, cond, ◌&&◌, eqb, List, [], ◌∷◌, ◌++◌, Ok, Option, sym, refl, ap, ◌∙◌, subst, ⊎_elim, arith}
-use Rattle.std.proofs.lemmas.Bool.{cases_Bool, not-false, cond-false, cond_both}
+use Rattle.std.proofs.lemmas.Bool.{cases_Bool, not-false, cond-false}
 use Rattle.std.proofs.lemmas.List.Sums.{sum_by-cons, sum_by-append}
 use Rattle.protocol.specs.Rules.{Rules, Lawful}
 use Rattle.tagged.specs.Operations.{class_of, operation_coded}
-use Rattle.tagged.specs.Rule.{unmet_outcome}
 use Rattle.tagged.specs.declared.answers.Answer.{Answer}
-use Rattle.tagged.specs.declared.operations.Class.{Class}
+use Rattle.tagged.specs.declared.answers.Outcome.TheVariants.{Waits}
+use Rattle.tagged.specs.declared.words.WordState.TheVariants.{Empty}
 use Rattle.promises.specs.Board.{Entry, Tenure, Found, own_copy, read_in, claimed, unmet, Bus, free, granted, snooped, State}
 use Rattle.promises.specs.Calls.{to_snoop, Slip, Call, issue, grant, give_back, snoop, settle, withdraw, evict, drain, look, save, tally}
 use Rattle.promises.specs.Lists.{without, oldest_ready}
 use Rattle.promises.specs.Refusing.{first_reason, is_free, bus_at, grant_reasons, slip_reasons, withdraw_reasons, evict_reasons, drain_reasons}
-use Rattle.promises.specs.Steps.{Step, gives_up, grant_bus, snoop_met, snoop_word, snoop_kind, snoop_found, settle_state, settle_answer, answers_now, issue_answer, issue_refusal}
+use Rattle.promises.specs.Steps.{Step, grant_bus, snoop_met, snoop_word, snoop_kind, snoop_found, settle_state, settle_answer, answer_undone}
 use Rattle.promises.specs.Runs.{Opening, Ran, opens, goes_on}
 use Rattle.promises.specs.OneMemory.{TaggedMemory, note, decide, noted_gives_up, is_done, is_answer, feed, one_memory}
 use Rattle.promises.specs.Promises.{times, number_if, answered_by, over_calls, EveryRunDecidesOnce}
@@ -20,8 +20,8 @@ use Rattle.promises.proofs.Counting.{one, times_measure, over_updated, measure_r
 use Rattle.promises.proofs.Accounts.{waits_for}
 use Rattle.promises.proofs.Accounted.{run_accounts}
 use Rattle.promises.proofs.Coherent.{run_sound}
-use Rattle.promises.proofs.Tenures.{FoundTrue, BusTrue, unmet_undone}
-use Rattle.promises.proofs.Sound.{WaitsIn, TenureWaits, Sound, tenure_noted, cleared, by_reply, at_bus, by_snoop, by_settle}
+use Rattle.promises.proofs.Tenures.{FoundTrue, BusTrue, unmet_undone, answers_gives_up}
+use Rattle.promises.proofs.Sound.{WaitsIn, TenureWaits, Sound, tenure_noted, answer_now, cleared, by_reply, by_issue, at_bus, by_snoop, by_settle}
 use Rattle.promises.proofs.Deciding.{counts_it}
 
 -- how often number k is owed an answer that is decided
@@ -49,9 +49,6 @@ granted_owes k j b e = grind arith
 
 grant_owes : (s : State) (c k : ℕ) (x : Option Entry) → owed k (grant_bus s c x) ≡ 0
 grant_owes s c k x = grind arith
-
-answers_gives_up : (x : Class) → is_done (unmet_outcome x) ≡ false → is_answer (unmet_outcome x) ≡ gives_up x
-answers_gives_up x e = grind arith
 
 module _ (r : Rules) (h : List Call) (m : TaggedMemory) (s : State) (sound : Sound r m s) (was : Balanced h m s.bus) where
   issued : (c k w v : ℕ) (a : Answer) → Balanced (issue c k w v (Ok a) ∷ h) (feed m (issue c k w v (Ok a))) s.bus
@@ -101,11 +98,7 @@ module _ (r : Rules) (h : List Call) (m : TaggedMemory) (s : State) (sound : Sou
           omega (arith, now, sum_by-append (one k) (number_if (is_answer o) t.entry.number) (over_calls (answered_by is_answer) h), before k)
 
   pub call_balanced : (c : Call) (t : State) → Step r s c t → Balanced (c ∷ h) (feed m c) t.bus
-  call_balanced (issue c k w v a) t step =
-      by_reply (λ b u. Balanced (issue c k w v b ∷ h) (feed m (issue c k w v b)) u.bus) s t _ (issue_refusal r s c k w v) _ a step.0 step.1 (λ e. was)
-      (λ none.
-      let answer = issue_answer r s c (operation_coded k) w v in
-      cond_both (answers_now r s c (operation_coded k) w v) _ _ (λ (u : State). Balanced (issue c k w v (Ok answer) ∷ h) (feed m (issue c k w v (Ok answer))) u.bus) (λ _. issued c k w v answer) (λ _. issued c k w v answer))
+  call_balanced (issue c k w v a) t step = by_issue (λ b u. Balanced (issue c k w v b ∷ h) (feed m (issue c k w v b)) u.bus) r s t c k w v a step (λ e. was) (λ y. issued c k w v (answer_now r s c (operation_coded k) w v)) (λ core. issued c k w v (answer_undone s.next Waits Empty))
   call_balanced (grant c a) t step =
       by_reply (λ b u. Balanced h m u.bus) s t _ (first_reason (grant_reasons s c)) _ a step.0 step.1 (λ e. was)
       (λ none k. omega (arith, was k, free_owes k s.bus (not-false (is_free s.bus) (cleared (grant_reasons s c) none).1.0), grant_owes s c k (oldest_ready [] (s.waiting c))))

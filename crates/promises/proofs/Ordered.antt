@@ -1,36 +1,30 @@
 -- Every run decides requests of one core on one word in the order of their issue.
 use Rattle.std.proofs.Common.{◌≡◌, ℕ, ◌<◌, ◌≤◌, Bool, true, false, cond, not, ◌&&◌, eqb, ◌⊎◌, List, [], ◌∷◌, ◌++◌, Some, None, Ok, Option, sym, refl, ap, ◌∙◌, subst, inl, inr, ⊎_elim, arith}
 use Rattle.std.proofs.lemmas.Bool.Decides.{nat_tests}
-use Rattle.std.proofs.lemmas.Bool.{cases_eq, not-true, and_parts, cond-true}
+use Rattle.std.proofs.lemmas.Bool.{cases_eq, not-true, and_parts, cond-true, cond_both}
 use Rattle.std.proofs.lemmas.List.Sums.{sum_by-cons}
 use Rattle.protocol.specs.Rules.{Rules, Lawful}
 use Rattle.tagged.specs.Operations.{class_of, operation_coded}
-use Rattle.tagged.specs.declared.answers.Outcome.TheVariants.{Waits}
 use Rattle.tagged.specs.declared.operations.Operation.{Operation}
-use Rattle.tagged.specs.declared.words.WordState.TheVariants.{Empty}
 use Rattle.promises.specs.Board.{Entry, Tenure, Found, own_copy, read_in, claimed, unmet, Bus, free, granted, snooped, State}
 use Rattle.promises.specs.Calls.{to_snoop, Slip, Call, issue, grant, give_back, snoop, settle, withdraw, evict, drain, look, save, tally}
-use Rattle.promises.specs.Lists.{any_entry, on_word, without, put_to_sleep, woken, oldest_ready}
+use Rattle.promises.specs.Lists.{any_entry, on_word, without, put_to_sleep, oldest_ready}
 use Rattle.promises.specs.Refusing.{first_reason, grant_reasons, slip_reasons, withdraw_reasons, evict_reasons, drain_reasons}
-use Rattle.promises.specs.Steps.{Step, updated, with_bus, grant_bus, answer_undone, answer_served, in_reach, own_met, snoop_met, waits, snoop_kind, snoop_state, is_waits, settle_state, settle_answer, holder, withdrawn_state, evicted_state, drained_state, answers_now, issue_served, issue_now, issue_later, issue_refusal}
+use Rattle.promises.specs.Steps.{Step, updated, with_bus, grant_bus, in_reach, own_met, snoop_met, waits, snoop_kind, snoop_state, is_waits, settle_state, settle_answer, holder, withdrawn_state, evicted_state, drained_state, answers_now, issue_served, issue_now, issue_later}
 use Rattle.promises.specs.Runs.{Opening, opened, Ran, opens, goes_on}
 use Rattle.promises.specs.OneMemory.{Note, TaggedMemory, note, serve_noted, decide, noted_gives_up, is_done, is_answer, feed, one_memory}
 use Rattle.promises.specs.Promises.{times, EveryEntry, InIssueOrder, IsDecidedOnce, EveryRunDecidesInIssueOrder}
-use Rattle.promises.proofs.Contents.{updated_same, updated_other}
+use Rattle.promises.proofs.Contents.{updated_same, updated_other, updated_each}
 use Rattle.promises.proofs.Frames.{same_state_as}
 use Rattle.promises.proofs.Counting.{one}
 use Rattle.promises.proofs.Entries.{every_weaker, every_both, every_append}
 use Rattle.promises.proofs.Rising.{Rising, Each, Within, within_same, within_then, within_wake, within_sleep, within_without, rising_append, ready_oldest}
 use Rattle.promises.proofs.Ordering.{At, OldestOnWord, Oldest, Earlier, Ordered, order_same, fewer_wait, oldest_within, oldest_kept, tenure_decided}
 use Rattle.promises.proofs.OnIssue.{answers}
-use Rattle.promises.proofs.Sound.{Noted, WaitsIn, TenureWaits, Sound, tenure_noted, by_reply, by_snoop, by_settle}
+use Rattle.promises.proofs.Sound.{Noted, WaitsIn, TenureWaits, Sound, tenure_noted, answer_now, by_reply, by_issue, by_snoop, by_settle}
 use Rattle.promises.proofs.Coherent.{run_sound}
 use Rattle.promises.proofs.Deciding.{counts_it}
 use Rattle.promises.proofs.DecidedOnce.{decides_once}
-
-every_one : (P : Entry → Type 0) → ((e : Entry) → P e) → (es : List Entry) → EveryEntry P es
-every_one P h [] = tt
-every_one P h (e ∷ es) = (h e, every_one P h es)
 
 within_updated : (f : ℕ → List Entry) (c : ℕ) (l : List Entry) → Within (f c) l → (d : ℕ) → Within (f d) (updated f c l d)
 within_updated f c l h d =
@@ -56,7 +50,7 @@ module _ (r : Rules) (m : TaggedMemory) (s : State) (sound : Sound r m s) (was :
     oldest = λ d.
         ⊎_elim
         (λ same. subst (λ i. Each (λ k w. c ≡ i → x.word ≡ w → x.number ≤ k) (s.waiting i)) same (every_weaker (λ f. x.word ≡ f.word → x.number ≤ f.number) (λ f. c ≡ c → x.word ≡ f.word → x.number ≤ f.number) (λ f h q. h) (s.waiting c) (ready_oldest [] (s.waiting c) x (was.rising c) e).1))
-        (λ ne. every_one (λ f. c ≡ d → x.word ≡ f.word → x.number ≤ f.number) (λ f q. absurd (ne q)) (s.waiting d))
+        (λ ne. every_weaker (Noted m s.next d) (λ f. c ≡ d → x.word ≡ f.word → x.number ≤ f.number) (λ f _ q. absurd (ne q)) (s.waiting d) (sound.notes d))
         (cases_eq c d);
     earlier = was.earlier;
     order = was.order;
@@ -68,8 +62,7 @@ module _ (r : Rules) (m : TaggedMemory) (s : State) (sound : Sound r m s) (was :
     decided_now once = tenure_decided m (decide m t.entry.number) s t here (tenure_noted r m s t sound here) old (serve_notes m t.entry.number (m.noted t.entry.number)) (counts_it m t.entry.number (m.noted t.entry.number)) once was
 
     decided_if : (b : Bool) → IsDecidedOnce (cond b (decide m t.entry.number) m) → Ordered (cond b (decide m t.entry.number) m) s
-    decided_if true once = decided_now once
-    decided_if false once = was
+    decided_if b = cond_both b _ _ (λ n. IsDecidedOnce n → Ordered n s) (λ _. decided_now) (λ _ _. was)
 
     -- SNOOP
     snoop_lists : (b : Bool) (c : ℕ) → Within (s.waiting c) (cond b (updated s.waiting t.core (put_to_sleep t.entry.number (s.waiting t.core))) s.waiting c)
@@ -122,18 +115,10 @@ module _ (r : Rules) (m : TaggedMemory) (s : State) (sound : Sound r m s) (was :
     new = record { number = s.next; operation = o; word = w; value = v; asleep = in_reach r s c o w v && not (own_met r s c o w v) }
 
     added : (P : Entry → Type 0) → P new → (d : ℕ) → EveryEntry P (s.waiting d) → EveryEntry P (updated s.waiting c (s.waiting c ++ new ∷ []) d)
-    added P p d h =
-        ⊎_elim
-        (λ same. subst (EveryEntry P) (sym (ap (updated s.waiting c (s.waiting c ++ new ∷ [])) same ∙ updated_same s.waiting c _)) (every_append P (s.waiting c) new (subst (λ i. EveryEntry P (s.waiting i)) same h) p))
-        (λ ne. subst (EveryEntry P) (sym (updated_other s.waiting c d _ ne)) h)
-        (cases_eq d c)
+    added P p d h = updated_each (λ _. EveryEntry P) s.waiting c _ (λ old. every_append P (s.waiting c) new old p) d h
 
     rises : (d : ℕ) → Rising (updated s.waiting c (s.waiting c ++ new ∷ []) d)
-    rises d =
-        ⊎_elim
-        (λ same. subst Rising (sym (ap (updated s.waiting c (s.waiting c ++ new ∷ [])) same ∙ updated_same s.waiting c _)) (rising_append (s.waiting c) new (every_weaker (Noted m s.next c) (λ e. e.number < s.next) (λ e h. h.below) (s.waiting c) (sound.notes c)) (was.rising c)))
-        (λ ne. subst Rising (sym (updated_other s.waiting c d _ ne)) (was.rising d))
-        (cases_eq d c)
+    rises d = updated_each (λ _. Rising) s.waiting c _ (rising_append (s.waiting c) new (every_weaker (Noted m s.next c) (λ e. e.number < s.next) (λ e h. h.below) (s.waiting c) (sound.notes c))) d (was.rising d)
 
     still_oldest : (b : Bus) → TenureWaits s b → Oldest s b → Oldest (issue_later r s c o w v) b
     still_oldest free here h = tt
@@ -184,15 +169,14 @@ module _ (r : Rules) (m : TaggedMemory) (s : State) (sound : Sound r m s) (was :
             (every_both (λ e. Earlier noting d e.number e.word) (λ e. w ≡ e.word → ⊥) (s.waiting d) (noted_ordered.earlier d) (subst (λ i. Each (λ n x. w ≡ x → ⊥) (s.waiting i)) same (none_on_word w (s.waiting c) alone)))
         later d (inr ne) = every_weaker (λ e. Earlier noting d e.number e.word) (λ e. Earlier (decide noting s.next) d e.number e.word) (λ e h. kept_early d e h (λ q. absurd (ne q))) (s.waiting d) (noted_ordered.earlier d)
 
-    issued : (b : Bool) → answers_now r s c o w v ≡ b → Ordered (feed m (issue c k w v (Ok (cond b (answer_served s.next (issue_served r s c o w v) (woken s (issue_served r s c o w v).notice w)) (answer_undone s.next Waits Empty))))) (cond b (issue_now r s c o w v) (issue_later r s c o w v))
-    issued true y =
+    issued : answers_now r s c o w v ≡ true → Ordered (feed m (issue c k w v (Ok (answer_now r s c o w v)))) (issue_now r s c o w v)
+    issued y =
         let reach = (and_parts (in_reach r s c o w v) _ y).0 in
         let alone = not-true _ (and_parts (not (any_entry (on_word w) (s.waiting c))) _ reach).0 in
         subst (λ n. Ordered n (issue_now r s c o w v)) (sym (cond-true (is_answer (issue_served r s c o w v).outcome) (decide noting s.next) noting (answers r law m s sound c o w v y))) (now_ordered alone)
-    issued false y = later_ordered
 
   pub call_ordered : Lawful r → (c : Call) (t : State) → Step r s c t → IsDecidedOnce (feed m c) → Ordered (feed m c) t
-  call_ordered law (issue c k w v a) t step once = by_reply (λ b u. Ordered (feed m (issue c k w v b)) u) s t _ (issue_refusal r s c k w v) _ a step.0 step.1 (λ e. was) (λ none. issued law c k w v (answers_now r s c (operation_coded k) w v) refl)
+  call_ordered law (issue c k w v a) t step once = by_issue (λ b u. Ordered (feed m (issue c k w v b)) u) r s t c k w v a step (λ e. was) (issued law c k w v) (λ _. later_ordered law c k w v)
   call_ordered law (grant c a) t step once = by_reply (λ b u. Ordered m u) s t _ (first_reason (grant_reasons s c)) _ a step.0 step.1 (λ e. was) (λ none. granted_ordered c (oldest_ready [] (s.waiting c)) refl)
   call_ordered law (give_back slip a) t step once = by_reply (λ b u. Ordered m u) s t (with_bus s free) (first_reason (slip_reasons s slip to_snoop)) _ a step.0 step.1 (λ e. was) (λ none. fewer_wait m s (with_bus s free) was (λ c. within_same (s.waiting c)) (omega arith) tt)
   call_ordered law (snoop slip a) t step once =

@@ -10,6 +10,7 @@ use Rattle.promises.specs.Calls.{Stage, to_snoop, to_settle, Slip, SnoopReport, 
 use Rattle.promises.specs.Refusing.{Reasons, first_reason, reply_unless, after_unless, bus_at, issue_reasons, slip_reasons}
 use Rattle.promises.specs.Lists.{woken}
 use Rattle.tagged.specs.Operations.{operation_coded}
+use Rattle.tagged.specs.declared.operations.Operation.{Operation}
 use Rattle.tagged.specs.declared.answers.Outcome.TheVariants.{Waits}
 use Rattle.tagged.specs.declared.words.WordState.TheVariants.{Empty}
 use Rattle.promises.specs.Steps.{Agree, Step, answer_undone, answer_served, answers_now, issue_served, issue_now, issue_later, issue_refusal, snoop_report, snoop_state, snoop_on, snoop_to, settle_answer, settle_state, settle_on, settle_to}
@@ -95,8 +96,12 @@ pub by_reply : {A : Type 0} (P : OrRefused A → State → Type 0) (s t after : 
 by_reply P s t after None x a is agree refused accepted = subst (λ b. P b t) (sym is) (subst (P (Ok x)) (sym (same_state_as agree)) (accepted refl))
 by_reply P s t after (Some e) x a is agree refused accepted = subst (λ b. P b t) (sym is) (subst (P (Err e)) (sym (same_state_as agree)) (refused e))
 
+-- the answer to an issue that is answered at once
+abbrev pub answer_now : Rules → State → ℕ → Operation → ℕ → ℕ → Answer
+answer_now r s c o w v = answer_served s.next (issue_served r s c o w v) (woken s (issue_served r s c o w v).notice w)
+
 -- an issue, by whether it is refused, answered at once or put into the list
-pub by_issue : (P : OrRefused Answer → State → Type 0) (r : Rules) (s t : State) (c k w v : ℕ) (a : OrRefused Answer) → Step r s (issue c k w v a) t → ((e : Refusal) → P (Err e) s) → (answers_now r s c (operation_coded k) w v ≡ true → P (Ok (answer_served s.next (issue_served r s c (operation_coded k) w v) (woken s (issue_served r s c (operation_coded k) w v).notice w))) (issue_now r s c (operation_coded k) w v)) → (c < s.setup.cores → P (Ok (answer_undone s.next Waits Empty)) (issue_later r s c (operation_coded k) w v)) → P a t
+pub by_issue : (P : OrRefused Answer → State → Type 0) (r : Rules) (s t : State) (c k w v : ℕ) (a : OrRefused Answer) → Step r s (issue c k w v a) t → ((e : Refusal) → P (Err e) s) → (answers_now r s c (operation_coded k) w v ≡ true → P (Ok (answer_now r s c (operation_coded k) w v)) (issue_now r s c (operation_coded k) w v)) → (c < s.setup.cores → P (Ok (answer_undone s.next Waits Empty)) (issue_later r s c (operation_coded k) w v)) → P a t
 by_issue P r s t c k w v a step refused now later =
     by_reply P s t _ (issue_refusal r s c k w v) _ a step.0 step.1 refused
     (λ none. by (answers_now r s c (operation_coded k) w v) _ _ _ _ now (λ z. later (leb-false s.setup.cores c (cleared (issue_reasons s _ c k w) none).0)))

@@ -1,5 +1,5 @@
 -- Every answer, look and save speaks for the one tagged memory.
-use Rattle.std.proofs.Common.{◌≡◌, ℕ, ◌<◌, min, Bool, true, false, cond, ◌&&◌, eqb, ◌⊎◌, List, [], ◌++◌, length, drop, Some, None, Ok, Option, sym, refl, ap, ◌∙◌, subst, inl, inr, ⊎_elim, arith}
+use Rattle.std.proofs.Common.{◌≡◌, ℕ, ◌<◌, min, true, false, ◌&&◌, eqb, List, [], ◌++◌, length, drop, Some, None, Ok, Option, sym, refl, ap, ◌∙◌, subst, arith}
 use Rattle.std.proofs.lemmas.Bool.Decides.{nat_tests}
 use Rattle.std.proofs.lemmas.Bool.{and_from, both_ways, cond-true, cond-false, cond_both}
 use Rattle.protocol.specs.Rules.{Rules, Lawful}
@@ -9,8 +9,6 @@ use Rattle.tagged.specs.Rule.{met, rule, done_by, unmet_by, unmet_outcome, unmet
 use Rattle.tagged.specs.declared.answers.Answer.{Answer}
 use Rattle.tagged.specs.declared.answers.Outcome.{Outcome}
 use Rattle.tagged.specs.declared.answers.Outcome.TheVariants.{Done, Discarded, Trap, Waits}
-use Rattle.tagged.specs.declared.operations.Class.{Class}
-use Rattle.tagged.specs.declared.operations.Class.TheVariants.{Unconditional, Waiting, NonFaulting, Trapping}
 use Rattle.tagged.specs.declared.operations.Operation.{Operation}
 use Rattle.tagged.specs.declared.refusals.Refusal.{Refusal}
 use Rattle.tagged.specs.declared.rule.Served.{Served}
@@ -21,17 +19,17 @@ use Rattle.promises.specs.Board.{Content, Entry, Tenure, Found, own_copy, read_i
 use Rattle.promises.specs.Board.{word_in, served_lines}
 use Rattle.promises.specs.Calls.{to_snoop, to_settle, Slip, SnoopReport, OrRefused, Call, issue, grant, give_back, snoop, settle, withdraw, evict, drain, look, save, tally}
 use Rattle.promises.specs.Copies.{stands}
-use Rattle.promises.specs.Lists.{woken, oldest_ready}
+use Rattle.promises.specs.Lists.{oldest_ready}
 use Rattle.promises.specs.Refusing.{first_reason, reply_unless, after_unless, grant_reasons, slip_reasons, withdraw_reasons, evict_reasons, drain_reasons, look_reasons, save_reasons}
-use Rattle.promises.specs.Steps.{Step, updated, grant_bus, gives_up, answer_undone, answer_served, picture_of, own_suffices, snoop_met, snoop_word, snoop_kind, snoop_found, snoop_report, settle_state, settle_answer, answers_now, issue_served, issue_answer, issue_refusal, save_reply}
-use Rattle.promises.specs.OneMemory.{TaggedMemory, note, serve_noted, decide, noted_gives_up, is_done, is_answer, feed, line_by_words}
+use Rattle.promises.specs.Steps.{Step, updated, grant_bus, gives_up, answer_undone, answer_served, picture_of, own_suffices, snoop_met, snoop_word, snoop_kind, snoop_found, snoop_report, settle_state, settle_answer, answers_now, issue_served, save_reply}
+use Rattle.promises.specs.OneMemory.{TaggedMemory, note, serve_noted, decide, noted_gives_up, is_answer, feed, line_by_words}
 use Rattle.promises.specs.Promises.{AsGiven, AnswerIsGiven, SpeaksTrue}
 use Rattle.promises.specs.Runs.{Opening}
 use Rattle.promises.proofs.Contents.{updated_same, line_word}
 use Rattle.promises.proofs.Standing.{stands_true}
-use Rattle.promises.proofs.Tenures.{Met, FoundTrue, BusTrue, travels_true, unmet_undone}
+use Rattle.promises.proofs.Tenures.{Met, FoundTrue, BusTrue, travels_true, unmet_undone, answers_gives_up}
 use Rattle.promises.proofs.OnIssue.{answers, own_is}
-use Rattle.promises.proofs.Sound.{note_of, WaitsIn, TenureWaits, Sound, tenure_noted, by_reply, by_snoop, by_settle}
+use Rattle.promises.proofs.Sound.{note_of, WaitsIn, TenureWaits, Sound, tenure_noted, answer_now, by_reply, by_issue, by_snoop, by_settle}
 
 -- the answer that is owed after a snoop of kind 3 is what the memory gave
 abbrev pub Owed : TaggedMemory → Bus → Type 0
@@ -123,20 +121,17 @@ module _ (r : Rules) (law : Lawful r) (op : Opening) (m : TaggedMemory) (s : Sta
     now_given y woke =
         as_served _ _ _ _ woke (ap (λ x. (serve_noted noting s.next x).gave s.next) fresh ∙ updated_same m.gave s.next _) (ap (λ x. rule o x v) (own_is r law m s was c o w v y))
 
-    issue_given : (b : Bool) → answers_now r s c o w v ≡ b → SpeaksTrue op (feed m (issue c k w v (Ok (cond b (answer_served s.next (issue_served r s c o w v) (woken s (issue_served r s c o w v).notice w)) (answer_undone s.next Waits Empty))))) (issue c k w v (Ok (cond b (answer_served s.next (issue_served r s c o w v) (woken s (issue_served r s c o w v).notice w)) (answer_undone s.next Waits Empty))))
-    issue_given true y =
+    issue_given : answers_now r s c o w v ≡ true → SpeaksTrue op (feed m (issue c k w v (Ok (answer_now r s c o w v)))) (issue c k w v (Ok (answer_now r s c o w v)))
+    issue_given y =
         let yes_answer = answers r law m s was c o w v y in
-        let woke = woken s (issue_served r s c o w v).notice w in
-        let answer = answer_served s.next (issue_served r s c o w v) woke in
-        subst (λ n. AnswerIsGiven n answer) (sym (cond-true (is_answer (issue_served r s c o w v).outcome) (decide noting s.next) noting yes_answer)) (rw yes_answer (now_given y woke))
-    issue_given false z = tt
+        subst (λ n. AnswerIsGiven n (answer_now r s c o w v)) (sym (cond-true (is_answer (issue_served r s c o w v).outcome) (decide noting s.next) noting yes_answer)) (rw yes_answer (now_given y _))
 
     pub issue_speaks : (a : OrRefused Answer) (t : State) → Step r s (issue c k w v a) t → SpeaksTrue op (feed m (issue c k w v a)) (issue c k w v a)
-    issue_speaks a t step = by_reply (λ b u. SpeaksTrue op (feed m (issue c k w v b)) (issue c k w v b)) s t _ (issue_refusal r s c k w v) _ a step.0 step.1 (λ e. tt) (λ none. issue_given (answers_now r s c o w v) refl)
+    issue_speaks a t step = by_issue (λ b u. SpeaksTrue op (feed m (issue c k w v b)) (issue c k w v b)) r s t c k w v a step (λ e. tt) issue_given (λ _. tt)
 
     -- what is owed stays: the new number is another
-    gave_old : (j : ℕ) → j < s.next → (feed m (issue c k w v (Ok (issue_answer r s c o w v)))).gave j ≡ m.gave j
-    gave_old j below = grind (arith, nat_tests, below)
+    gave_old : (a : Answer) → a.number ≡ s.next → (j : ℕ) → j < s.next → (feed m (issue c k w v (Ok a))).gave j ≡ m.gave j
+    gave_old a number j below = grind (arith, nat_tests, below)
 
   -- what is owed, with another memory that gave the bus's request the same
   owed_kept : (n : TaggedMemory) (b : Bus) → TenureWaits s b → ((j : ℕ) → j < s.next → n.gave j ≡ m.gave j) → Owed m b → Owed n b
@@ -159,13 +154,6 @@ module _ (r : Rules) (law : Lawful r) (op : Opening) (m : TaggedMemory) (s : Sta
       noted : m.noted slip.number ≡ Some (note_of t.core t.entry)
       noted = ap m.noted number ∙ (tenure_noted r m s t was here).note
 
-      -- the classes that an unmet condition answers
-      answers_gives_up : (x : Class) → is_answer (unmet_outcome x) ≡ true → (gives_up x ≡ true) ⊎ (x ≡ Unconditional)
-      answers_gives_up Unconditional e = inr refl
-      answers_gives_up Waiting e = absurd (both_ways false refl e)
-      answers_gives_up NonFaulting e = inl refl
-      answers_gives_up Trapping e = inl refl
-
       abbrev report : Slip × SnoopReport
       report = (record { board = s.setup.board; number = t.entry.number; stage = to_settle }, snoop_report r s t)
 
@@ -173,7 +161,7 @@ module _ (r : Rules) (law : Lawful r) (op : Opening) (m : TaggedMemory) (s : Sta
       owed_after x y not_met ox oy e =
           let unmet_here : met t.entry.operation (m.word t.entry.word).state ≡ false = sym (ap (λ (z : Word). met t.entry.operation z.state) word) ∙ not_met in
           let class = class_of t.entry.operation in
-          let up : gives_up class ≡ true = ⊎_elim (λ z. z) (λ z. absurd (both_ways true (sym (ap (λ q. is_done (unmet_outcome q)) z) ∙ unmet_undone t.entry.operation _ unmet_here) refl)) (answers_gives_up class (sym (ap is_answer ox) ∙ e)) in
+          let up : gives_up class ≡ true = grind (arith, answers_gives_up class (unmet_undone t.entry.operation _ unmet_here), ox, e) in
           let kind : eqb (snoop_kind r s t) 3 ≡ true = ap (λ q. eqb q 3) (cond-false _ _ _ not_met) in
           let decides : (eqb (snoop_kind r s t) 3 && noted_gives_up (m.noted slip.number)) ≡ true = and_from (eqb (snoop_kind r s t) 3) _ kind (ap noted_gives_up noted ∙ up) in
           let gives : rule t.entry.operation (m.word t.entry.word) t.entry.value ≡ unmet_by t.entry.operation (m.word t.entry.word) = cond-false _ _ _ unmet_here in
@@ -206,11 +194,8 @@ module _ (r : Rules) (law : Lawful r) (op : Opening) (m : TaggedMemory) (s : Sta
 
   pub owed_after_call : (c : Call) (t : State) → Step r s c t → Owed (feed m c) t.bus
   owed_after_call (issue c k w v a) t step =
-      by_reply (λ b u. Owed (feed m (issue c k w v b)) u.bus) s t _ (issue_refusal r s c k w v) _ a step.0 step.1 (λ e. owed)
-      (λ none.
-      let n = feed m (issue c k w v (Ok (issue_answer r s c (operation_coded k) w v))) in
-      let kept = owed_kept n s.bus was.tenure (gave_old c k w v) owed in
-      cond_both (answers_now r s c (operation_coded k) w v) _ _ (λ (u : State). Owed n u.bus) (λ _. kept) (λ _. kept))
+      let kept : (x : Answer) → x.number ≡ s.next → Owed (feed m (issue c k w v (Ok x))) s.bus = λ x number. owed_kept _ s.bus was.tenure (gave_old c k w v x number) owed in
+      by_issue (λ b u. Owed (feed m (issue c k w v b)) u.bus) r s t c k w v a step (λ e. owed) (λ y. kept (answer_now r s c (operation_coded k) w v) refl) (λ core. kept (answer_undone s.next Waits Empty) refl)
   owed_after_call (grant c a) t step = by_reply (λ b u. Owed m u.bus) s t _ (first_reason (grant_reasons s c)) _ a step.0 step.1 (λ e. owed) (λ none. grant_owes c (oldest_ready [] (s.waiting c)))
   owed_after_call (give_back slip a) t step = by_reply (λ b u. Owed m u.bus) s t _ (first_reason (slip_reasons s slip to_snoop)) _ a step.0 step.1 (λ e. owed) (λ none. tt)
   owed_after_call (snoop slip a) t step = by_snoop (λ b u. Owed (feed m (snoop slip b)) u.bus) r s t slip a step (λ e. owed) (snoop_owed slip)

@@ -1,17 +1,15 @@
 -- Every answer, look and save of a run is that of one tagged memory.
 use Rattle.std.proofs.Common.{◌≡◌, List, [], sym, refl, ap, ◌∙◌, subst, arith}
 use Rattle.protocol.specs.Rules.{Rules, Lawful}
-use Rattle.tagged.specs.Operations.{operation_coded}
 use Rattle.promises.specs.Board.{Tenure, Found, Setup, State}
 use Rattle.promises.specs.Calls.{to_snoop, Call, issue, grant, give_back, snoop, settle, withdraw, evict, drain, look, save, tally}
 use Rattle.promises.specs.Refusing.{first_reason, slip_reasons, grant_reasons, withdraw_reasons, evict_reasons, drain_reasons}
-use Rattle.promises.specs.Steps.{Step, answers_now, issue_refusal, settle_state}
+use Rattle.promises.specs.Steps.{Step, settle_state}
 use Rattle.promises.specs.Runs.{Opening, opened, Ran, opens, goes_on}
 use Rattle.promises.specs.OneMemory.{one_memory}
 use Rattle.promises.specs.Promises.{AllSpeakTrue, EveryRunSpeaksTrue}
 use Rattle.promises.proofs.Coherent.{run_sound}
-use Rattle.promises.proofs.Sound.{by_reply, by_snoop, by_settle}
-use Rattle.std.proofs.lemmas.Bool.{cond_both}
+use Rattle.promises.proofs.Sound.{by_reply, by_issue, by_snoop, by_settle}
 use Rattle.promises.proofs.Speaking.{Owed, owed_after_call, call_speaks}
 
 -- no call changes what a board was opened with
@@ -20,8 +18,7 @@ module _ (r : Rules) (s : State) where
   settled_setup t f = grind arith
 
   step_setup : (t : State) (c : Call) → Step r s c t → t.setup ≡ s.setup
-  step_setup t (issue c k w v a) step =
-      by_reply (λ b u. u.setup ≡ s.setup) s t _ (issue_refusal r s c k w v) _ a step.0 step.1 (λ e. refl) (λ none. cond_both (answers_now r s c (operation_coded k) w v) _ _ (λ (u : State). u.setup ≡ s.setup) (λ y. refl) (λ z. refl))
+  step_setup t (issue c k w v a) step = by_issue (λ b u. u.setup ≡ s.setup) r s t c k w v a step (λ e. refl) (λ y. refl) (λ core. refl)
   step_setup t (grant c a) step = by_reply (λ b u. u.setup ≡ s.setup) s t _ (first_reason (grant_reasons s c)) _ a step.0 step.1 (λ e. refl) (λ none. refl)
   step_setup t (give_back slip a) step = by_reply (λ b u. u.setup ≡ s.setup) s t _ (first_reason (slip_reasons s slip to_snoop)) _ a step.0 step.1 (λ e. refl) (λ none. refl)
   step_setup t (snoop slip a) step = by_snoop (λ b u. u.setup ≡ s.setup) r s t slip a step (λ e. refl) (λ x bus number. refl)

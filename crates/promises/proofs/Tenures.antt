@@ -9,8 +9,9 @@ use Rattle.tagged.specs.declared.words.Word.{Word}
 use Rattle.tagged.specs.declared.words.WordState.{WordState}
 use Rattle.promises.specs.Board.{Content, word_in, Tenure, Found, own_copy, read_in, claimed, unmet, Bus, free, granted, snooped, State, line_of}
 use Rattle.promises.specs.Copies.{copy, keeps, owns, others_keep, any_core, supplied, stands}
-use Rattle.promises.specs.Steps.{own_suffices, fetches, snoop_met, snoop_found, snoop_state}
-use Rattle.promises.specs.OneMemory.{line_by_words, is_done}
+use Rattle.tagged.specs.declared.operations.Class.{Class}
+use Rattle.promises.specs.Steps.{gives_up, own_suffices, fetches, snoop_met, snoop_found, snoop_state}
+use Rattle.promises.specs.OneMemory.{line_by_words, is_done, is_answer}
 use Rattle.promises.proofs.Contents.{line_word}
 use Rattle.promises.proofs.Frames.{kept_of, keeps_same, any_from}
 use Rattle.promises.proofs.Copies.{claiming, Copies, Fewer, owns_keeps}
@@ -58,6 +59,10 @@ travels_true r T s b h = grind arith
 -- an unmet operation is not done
 pub unmet_undone : (o : Operation) (x : WordState) → met o x ≡ false → is_done (unmet_outcome (class_of o)) ≡ false
 unmet_undone o x e = grind arith
+
+-- and it is answered in the classes that do not wait
+pub answers_gives_up : (x : Class) → is_done (unmet_outcome x) ≡ false → is_answer (unmet_outcome x) ≡ gives_up x
+answers_gives_up x e = grind arith
 
 -- the copies of line m are kept with the same codes in both states
 pub record Like (r : Rules) (s t : State) (m : ℕ) : Type 0 where
