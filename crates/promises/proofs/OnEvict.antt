@@ -11,7 +11,7 @@ use Rattle.promises.specs.OneMemory.{TaggedMemory, feed}
 use Rattle.promises.proofs.Frames.{keeps_same, frame_cases}
 use Rattle.promises.proofs.Copies.{keeps_empty, one_line, evict_copies, drain_copies}
 use Rattle.promises.proofs.Tenures.{Like, found_like, BusTrue}
-use Rattle.promises.proofs.Sound.{Sound, TenureWaits, cleared, by_reply}
+use Rattle.promises.proofs.Sound.{Sound, TenureWaits, tenure_kept, cleared, by_reply}
 
 module _ (r : Rules) (law : Lawful r) (m : TaggedMemory) (s : State) (was : Sound r m s) where
   -- the copies of other lines stay
@@ -32,11 +32,6 @@ module _ (r : Rules) (law : Lawful r) (m : TaggedMemory) (s : State) (was : Soun
   evict_bus c w kept (granted t) e h = tt
   evict_bus c w kept (snooped t f) e h = found_like r m.word m.word s (evicted_state r s c w) t (evict_like c w (line_of t.entry.word) kept (eqb-false _ _ e)) refl refl f h
 
-  tenure_kept : (c w : ℕ) (b : Bus) → TenureWaits s b → TenureWaits (evicted_state r s c w) b
-  tenure_kept c w free h = tt
-  tenure_kept c w (granted t) h = record { core = h.core; present = h.present }
-  tenure_kept c w (snooped t f) h = record { core = h.core; present = h.present }
-
   pub evict_sound : (c w : ℕ) (a : OrRefused (Unit {0})) (t : State) → Step r s (evict c w a) t → Sound r (feed m (evict c w a)) t
   evict_sound c w a t step =
       by_reply (λ b u. Sound r (feed m (evict c w b)) u) s t (evicted_state r s c w) (first_reason (evict_reasons s r c w)) _ a step.0 step.1 (λ e. was)
@@ -48,7 +43,7 @@ module _ (r : Rules) (law : Lawful r) (m : TaggedMemory) (s : State) (was : Soun
         copies = evict_copies r law m.word s c w was.copies kept;
         bus = evict_bus c w kept s.bus clear.1.1.1.0 was.bus;
         notes = was.notes;
-        tenure = tenure_kept c w s.bus was.tenure;
+        tenure = tenure_kept s (evicted_state r s c w) s.bus (λ x h. record { core = h.core; present = h.present }) was.tenure;
         sleepers = was.sleepers;
       })
 

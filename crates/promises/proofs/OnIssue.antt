@@ -1,17 +1,18 @@
 -- Issue.
-use Rattle.std.proofs.Common.{◌≡◌, ℕ, ◌+◌, ◌%◌, Bool, true, false, cond, not, ◌&&◌, ◌⊎◌, Some, sym, refl, ap, ◌∙◌, subst, ⊎_elim, arith}
-use Rattle.std.proofs.lemmas.Bool.{cases_eq, cases_Bool, not-true, and_parts, and_from, both_ways, cond-true, cond-false, false_from_ne_true, cond_both}
+use Rattle.std.proofs.Common.{◌≡◌, ℕ, ◌+◌, ◌%◌, Bool, true, false, cond, not, ◌&&◌, ◌⊎◌, Some, sym, refl, ap, ◌∙◌, subst, ⊎_elim, arith, rules}
+use Rattle.std.proofs.lemmas.Bool.Decides.{nat_tests}
+use Rattle.std.proofs.lemmas.Bool.{cases_eq, cases_Bool, and_parts, and_from, cond-true, cond-false, false_from_ne_true, cond_both}
 use Rattle.protocol.specs.Rules.{Rules, Lawful}
 use Rattle.tagged.specs.declared.answers.Answer.{Answer}
 use Rattle.tagged.specs.declared.operations.Operation.{Operation}
 use Rattle.tagged.specs.declared.rule.Served.{Served}
 use Rattle.tagged.specs.declared.words.Word.{Word}
-use Rattle.promises.specs.Board.{Frame, Entry, Tenure, Found, own_copy, read_in, claimed, unmet, Bus, free, granted, snooped, State, line_of, frame_of}
+use Rattle.promises.specs.Board.{Frame, Entry, Tenure, Found, own_copy, read_in, claimed, unmet, Bus, State, line_of, frame_of}
 use Rattle.tagged.specs.Rule.{met, rule}
 use Rattle.tagged.specs.Operations.{claims, class_of, operation_coded}
 use Rattle.tagged.specs.Rule.{unmet_outcome}
 use Rattle.tagged.specs.declared.operations.Class.{Class}
-use Rattle.promises.specs.Board.{word_in, with_word_in}
+use Rattle.promises.specs.Board.{with_word_in}
 use Rattle.promises.specs.Calls.{OrRefused, issue}
 use Rattle.promises.specs.Copies.{copy, keeps, owns}
 use Rattle.promises.specs.Lists.{on_word, any_entry, wake}
@@ -29,7 +30,7 @@ use Rattle.promises.proofs.OnBus.{bus_kept}
 use Rattle.promises.proofs.OnSettle.{noted_wake}
 use Rattle.promises.proofs.OnSnoop.{unmet_word}
 use Rattle.promises.proofs.Sleeping.{SleepsRight, woken_right, rule_tells}
-use Rattle.promises.proofs.Sound.{Noted, WaitsIn, TenureWaits, Sound, same_frames, by_issue}
+use Rattle.promises.proofs.Sound.{Noted, WaitsIn, TenureWaits, tenure_kept, Sound, same_frames, by_issue}
 
 -- an operation that is unmet, or no claim, leaves the word
 pub rule_stays : (o : Operation) (x : Word) (v : ℕ) → (met o x.state && claims o) ≡ false → (rule o x v).word ≡ x
@@ -45,7 +46,7 @@ module _ (r : Rules) (law : Lawful r) (m : TaggedMemory) (s : State) (was : Soun
 
   -- notes of waiting requests stay: their numbers were given before
   old_note : (d : ℕ) (e : Entry) → Noted m s.next d e → Noted noting (s.next + 1) d e
-  old_note d e h = record { note = updated_other m.noted s.next e.number _ (λ same. omega (arith, h.below)) ∙ h.note; below = omega (arith, h.below) }
+  old_note d e h = record { note = grind (arith, nat_tests, h.note, h.below); below = omega (arith, h.below) }
 
   -- LATER: the request waits
   later_present : (t : Tenure) → WaitsIn s t → WaitsIn (issue_later r s c o w v) t
@@ -54,16 +55,10 @@ module _ (r : Rules) (law : Lawful r) (m : TaggedMemory) (s : State) (was : Soun
     present = updated_each (λ _. Present t.entry) s.waiting c _ (present_append t.entry _ _) t.core h.present;
   }
 
-  later_tenure : (b : Bus) → TenureWaits s b → TenureWaits (issue_later r s c o w v) b
-  later_tenure free h = tt
-  later_tenure (granted t) h = later_present t h
-  later_tenure (snooped t f) h = later_present t h
-
   -- a request that goes to sleep at its issue is unmet
   new_sleeper : (in_reach r s c o w v && not (own_met r s c o w v)) ≡ true → met o (T w).state ≡ false
   new_sleeper e =
-      let p = and_parts (in_reach r s c o w v) _ e in
-      let kept : keeps r s c (line_of w) ≡ true = (and_parts (not (any_entry (on_word w) (s.waiting c))) _ p.0).1 in
+      let kept : keeps r s c (line_of w) ≡ true = grind arith in
       grind (arith, was.copies.true_copies c (line_of w) kept, line_word T w)
 
   later_sound : Sound r noting (issue_later r s c o w v)
@@ -75,7 +70,7 @@ module _ (r : Rules) (law : Lawful r) (m : TaggedMemory) (s : State) (was : Soun
         updated_each (λ i. EveryEntry (Noted noting (s.next + 1) i)) s.waiting c _
         (λ h. every_append _ (s.waiting c) _ h (record { note = updated_same m.noted s.next _; below = omega arith }))
         d (every_weaker _ _ (old_note d) (s.waiting d) (was.notes d));
-    tenure = later_tenure s.bus was.tenure;
+    tenure = tenure_kept s (issue_later r s c o w v) s.bus later_present was.tenure;
     sleepers = λ d. updated_each (λ _. EveryEntry (SleepsRight T)) s.waiting c _ (λ h. every_append _ (s.waiting c) _ h new_sleeper) d (was.sleepers d);
   }
 
@@ -85,14 +80,14 @@ module _ (r : Rules) (law : Lawful r) (m : TaggedMemory) (s : State) (was : Soun
     n = line_of w
 
     reach : in_reach r s c o w v ≡ true
-    reach = (and_parts (in_reach r s c o w v) _ now).0
+    reach = grind arith
 
     kept : keeps r s c n ≡ true
-    kept = (and_parts (not (any_entry (on_word w) (s.waiting c))) _ reach).1
+    kept = grind (arith, reach)
 
     -- the core has no request on the word
     first : any_entry (on_word w) (s.waiting c) ≡ false
-    first = not-true _ (and_parts (not (any_entry (on_word w) (s.waiting c))) _ reach).0
+    first = grind (arith, reach)
 
     abbrev g : Word → Word
     g x = (rule o x v).word
@@ -101,13 +96,13 @@ module _ (r : Rules) (law : Lawful r) (m : TaggedMemory) (s : State) (was : Soun
     claim = own_met r s c o w v && claims o
 
     pub own_is : own_word r s c o w v ≡ m.word w
-    own_is = ap (λ f. word_in f w) (was.copies.true_copies c n kept) ∙ line_word T w
+    own_is = cc (was.copies.true_copies c n kept, line_word T w)
 
     sole : claim ≡ true → r.sole (copy s c n).code ≡ true
     sole e = grind (arith, now)
 
     stays : claim ≡ false → g (T w) ≡ T w
-    stays e = rule_stays o (T w) v (ap (λ (x : Word). met o x.state && claims o) (sym own_is) ∙ e)
+    stays e = rule_stays o (T w) v (rw (← own_is) e)
 
     abbrev after : State
     after = issue_now r s c o w v
@@ -127,9 +122,7 @@ module _ (r : Rules) (law : Lawful r) (m : TaggedMemory) (s : State) (was : Soun
       kept = λ d. ⊎_elim (λ p. at_place d p) (λ p. keeps_same r after s d x p.1) (place d x);
       code = λ d k.
           ⊎_elim
-          (λ p.
-          let same = line_same d p k in
-          ap (λ (f : Frame). f.code) p.2 ∙ cond-false _ _ _ (other same) ∙ (λ i. (s.frame (sym p.0 i) (sym p.1 i)).code))
+          (λ p. grind (arith, p.2, other (line_same d p k)))
           (λ p. ap (λ (f : Frame). f.code) p.1)
           (place d x);
     }
@@ -146,9 +139,8 @@ module _ (r : Rules) (law : Lawful r) (m : TaggedMemory) (s : State) (was : Soun
             let still = keeps_by r after d x (record { core = grind (arith, own.core); line = grind (arith, own.line); code = code }) in
             grind arith)
             (λ ne.
-            let before : keeps r s d x ≡ false = false_from_ne_true _ (λ k. ne (line_same d p k)) in
-            let afterwards : keeps r after d x ≡ false = false_from_ne_true _ (λ k. ne (sym (kept_of r after d x k).line ∙ ap (λ (f : Frame). f.line) p.2 ∙ (kept_of r s c n kept).line)) in
-            afterwards ∙ sym before)
+            let afterwards : keeps r after d x ≡ true → x ≡ n = λ k. grind (arith, p.2, kept_of r after d x k, kept_of r s c n kept) in
+            false_from_ne_true _ (λ k. ne (afterwards k)) ∙ sym (false_from_ne_true _ (λ k. ne (line_same d p k))))
             (cases_eq x n)
 
     -- what a tenure has found stays true
@@ -169,15 +161,13 @@ module _ (r : Rules) (law : Lawful r) (m : TaggedMemory) (s : State) (was : Soun
         claimed_now : (t : Tenure) (f : Found) → WaitsIn s t → line_of t.entry.word ≡ n → claim ≡ true → FoundTrue r T s t f → FoundTrue r (changed T g w) after t f
         claimed_now t own_copy here e y h =
             let mine : t.core ≡ c = was.copies.alone c t.core n (owner y) (ap (keeps r s t.core) (sym e) ∙ h.0.kept) in
-            let apart : t.entry.word ≡ w → ⊥ = λ same. both_ways _ first (ap (λ x. any_entry (on_word x) (s.waiting c)) (sym same) ∙ ap (λ d. any_entry (on_word t.entry.word) (s.waiting d)) (sym mine) ∙ present_on_word t.entry (s.waiting t.core) here.present) in
-            let frame : copy after t.core (line_of t.entry.word) ≡ record { code = r.own_claim; line = (copy s c n).line; content = filled.content } =
-            ⊎_elim (λ p. p.2 ∙ ap (λ k. record { code = k; line = (copy s c n).line; content = filled.content }) (cond-true _ _ _ y)) (λ p. absurd (p.0 (mine, ap (λ x. x % 16) e))) (place t.core (line_of t.entry.word))
-            in (
+            let apart : t.entry.word ≡ w → ⊥ = λ same. grind (arith, first, present_on_word t.entry (s.waiting t.core) here.present) in
+            let frame : copy after t.core (line_of t.entry.word) ≡ record { code = r.own_claim; line = (copy s c n).line; content = filled.content } = grind (arith, place t.core (line_of t.entry.word)) in (
               record {
                 kept = keeps_by r after t.core (line_of t.entry.word) (record { core = here.core; line = ap (λ (z : Frame). z.line) frame ∙ (kept_of r s c n kept).line ∙ sym e; code = ap (λ (z : Frame). r.kept z.code) frame ∙ law.own_kept });
                 sole = λ _. ap (λ (z : Frame). r.sole z.code) frame ∙ law.own_sole;
               },
-              ap (λ (x : Word). met t.entry.operation x.state) (updated_other T w t.entry.word (g (T w)) apart) ∙ h.1,
+              rw (updated_other T w t.entry.word (g (T w)) apart) h.1,
             )
         claimed_now t (read_in shared f) here e y h = absurd (h.0.none_sole c (ap (owns r s c) e ∙ owner y))
         claimed_now t (claimed f) here e y h =
@@ -185,14 +175,7 @@ module _ (r : Rules) (law : Lawful r) (m : TaggedMemory) (s : State) (was : Soun
         claimed_now t (unmet x found) here e y h = h
 
     now_bus : (b : Bus) → TenureWaits s b → BusTrue r T s b → BusTrue r (changed T g w) after b
-    now_bus free here h = tt
-    now_bus (granted t) here h = tt
-    now_bus (snooped t f) here h = found_now t f here h
-
-    now_tenure : (b : Bus) → TenureWaits s b → TenureWaits after b
-    now_tenure free h = tt
-    now_tenure (granted t) h = record { core = h.core; present = present_wake _ _ t.entry (s.waiting t.core) h.present }
-    now_tenure (snooped t f) h = record { core = h.core; present = present_wake _ _ t.entry (s.waiting t.core) h.present }
+    now_bus b here h = search (rules, found_now)
 
     abbrev deciding : TaggedMemory
     deciding = decide noting s.next
@@ -206,7 +189,7 @@ module _ (r : Rules) (law : Lawful r) (m : TaggedMemory) (s : State) (was : Soun
       copies = subst (λ X. Copies r X after) (sym word) copies;
       bus = subst (λ X. BusTrue r X after s.bus) (sym word) (now_bus s.bus was.tenure was.bus);
       notes = λ d. every_map (Noted m s.next d) (Noted deciding (s.next + 1) d) _ (λ e h. noted_again d _ (noted_wake noting (s.next + 1) d _ _ e (old_note d e h))) (s.waiting d) (was.notes d);
-      tenure = now_tenure s.bus was.tenure;
+      tenure = tenure_kept s after s.bus (λ x h. record { core = h.core; present = present_wake _ _ x.entry (s.waiting x.core) h.present }) was.tenure;
       sleepers = λ d. subst (λ X. EveryEntry (SleepsRight X) (after.waiting d)) (sym word) (every_map (SleepsRight T) (SleepsRight (changed T g w)) (wake (issue_served r s c o w v).notice w) (λ e h. woken_right T w (g (T w)) _ (ap (λ x. (rule o x v).notice) own_is ∙ rule_tells o (T w) v) e h) (s.waiting d) (was.sleepers d));
     }
       where

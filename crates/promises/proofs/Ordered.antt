@@ -1,12 +1,12 @@
 -- Every run decides requests of one core on one word in the order of their issue.
-use Rattle.std.proofs.Common.{◌≡◌, ℕ, ◌<◌, ◌≤◌, Bool, true, false, cond, not, ◌&&◌, eqb, ◌⊎◌, List, [], ◌∷◌, ◌++◌, Some, None, Ok, Option, sym, refl, ap, ◌∙◌, subst, inl, inr, ⊎_elim, arith}
+use Rattle.std.proofs.Common.{◌≡◌, ℕ, ◌<◌, ◌≤◌, Bool, true, false, cond, not, ◌&&◌, eqb, ◌⊎◌, List, [], ◌∷◌, ◌++◌, Some, None, Ok, Option, sym, refl, ap, ◌∙◌, subst, inl, inr, ⊎_elim, arith, rules}
 use Rattle.std.proofs.lemmas.Bool.Decides.{nat_tests}
 use Rattle.std.proofs.lemmas.Bool.{cases_eq, not-true, and_parts, cond-true, cond_both}
 use Rattle.std.proofs.lemmas.List.Sums.{sum_by-cons}
 use Rattle.protocol.specs.Rules.{Rules, Lawful}
 use Rattle.tagged.specs.Operations.{class_of, operation_coded}
 use Rattle.tagged.specs.declared.operations.Operation.{Operation}
-use Rattle.promises.specs.Board.{Entry, Tenure, Found, own_copy, read_in, claimed, unmet, Bus, free, granted, snooped, State}
+use Rattle.promises.specs.Board.{Entry, Tenure, Found, own_copy, read_in, claimed, unmet, Bus, free, granted, State}
 use Rattle.promises.specs.Calls.{to_snoop, Slip, Call, issue, grant, give_back, snoop, settle, withdraw, evict, drain, look, save, tally}
 use Rattle.promises.specs.Lists.{any_entry, on_word, without, put_to_sleep, oldest_ready}
 use Rattle.promises.specs.Refusing.{first_reason, grant_reasons, slip_reasons, withdraw_reasons, evict_reasons, drain_reasons}
@@ -121,9 +121,10 @@ module _ (r : Rules) (m : TaggedMemory) (s : State) (sound : Sound r m s) (was :
     rises d = updated_each (λ _. Rising) s.waiting c _ (rising_append (s.waiting c) new (every_weaker (Noted m s.next c) (λ e. e.number < s.next) (λ e h. h.below) (s.waiting c) (sound.notes c))) d (was.rising d)
 
     still_oldest : (b : Bus) → TenureWaits s b → Oldest s b → Oldest (issue_later r s c o w v) b
-    still_oldest free here h = tt
-    still_oldest (granted t) here h = λ d. added (λ e. t.core ≡ d → t.entry.word ≡ e.word → t.entry.number ≤ e.number) (λ p q. omega (arith, (tenure_noted r m s t sound here).below)) d (h d)
-    still_oldest (snooped t f) here h = λ d. added (λ e. t.core ≡ d → t.entry.word ≡ e.word → t.entry.number ≤ e.number) (λ p q. omega (arith, (tenure_noted r m s t sound here).below)) d (h d)
+    still_oldest b here h = search (rules, still)
+      where
+        still : (t : Tenure) → WaitsIn s t → OldestOnWord s t → OldestOnWord (issue_later r s c o w v) t
+        still t here h d = added (λ e. t.core ≡ d → t.entry.word ≡ e.word → t.entry.number ≤ e.number) (λ p q. omega (arith, (tenure_noted r m s t sound here).below)) d (h d)
 
     later_ordered : Ordered noting (issue_later r s c o w v)
     later_ordered = record {

@@ -1,5 +1,5 @@
 -- What every run keeps of copies, bus and lists, beside the one tagged memory m.
-use Rattle.std.proofs.Common.{◌≡◌, ℕ, ◌%◌, ◌<◌, ◌≤◌, Bool, true, false, cond, [], ◌∷◌, Some, None, Ok, Err, Option, sym, refl, ap, ◌∙◌, subst, arith, leb-false}
+use Rattle.std.proofs.Common.{◌≡◌, ℕ, ◌%◌, ◌<◌, ◌≤◌, Bool, true, false, cond, [], ◌∷◌, Some, None, Ok, Err, Option, sym, refl, ap, ◌∙◌, subst, arith, leb-false, rules}
 use Rattle.std.proofs.lemmas.Bool.{eqb-true, both_ways}
 use Rattle.protocol.specs.Rules.{Rules}
 use Rattle.tagged.specs.declared.refusals.Refusal.{Refusal}
@@ -40,6 +40,10 @@ abbrev pub TenureWaits : State → Bus → Type 0
 TenureWaits s free = Unit {0}
 TenureWaits s (granted t) = WaitsIn s t
 TenureWaits s (snooped t f) = WaitsIn s t
+
+-- the request that has the bus still waits
+pub tenure_kept : (s t : State) (b : Bus) → ((x : Tenure) → WaitsIn s x → WaitsIn t x) → TenureWaits s b → TenureWaits t b
+tenure_kept s t b kept h = search rules
 
 pub record Sound (r : Rules) (m : TaggedMemory) (s : State) : Type 0 where
   pub few_cores : s.setup.cores ≤ 8
