@@ -1,14 +1,14 @@
 -- A decided request was issued before, and the one memory gave it something.
-use Rattle.std.proofs.Common.{◌≡◌, ℕ, Bool, true, cond, ◌&&◌, eqb, List, [], ◌∷◌, is_some, Ok, Err, Option, sym, refl, ap, ◌∙◌, ⊎_elim, arith}
+use Rattle.std.proofs.Common.{◌≡◌, ℕ, Bool, true, cond, ◌&&◌, eqb, List, [], ◌∷◌, is_some, Ok, Err, Option, ap, ◌∙◌, ⊎_elim, arith}
 use Rattle.std.proofs.lemmas.Bool.Decides.{nat_tests}
-use Rattle.std.proofs.lemmas.Bool.{cases_eq, and_parts, cond-true, cond_both}
+use Rattle.std.proofs.lemmas.Bool.{cases_eq, and_parts, cond_both}
 use Rattle.std.proofs.lemmas.List.Sums.{sum_by-cons}
 use Rattle.tagged.specs.Operations.{operation_coded}
 use Rattle.tagged.specs.declared.answers.Outcome.{Outcome}
 use Rattle.promises.specs.Calls.{Call, issue, grant, give_back, snoop, settle, withdraw, evict, drain, look, save, tally}
 use Rattle.promises.specs.Runs.{Opening}
 use Rattle.promises.specs.OneMemory.{Note, TaggedMemory, note, serve_noted, decide, noted_gives_up, is_done, is_answer, feed, one_memory}
-use Rattle.promises.specs.Promises.{times, DecidedAfterIssue, EveryRunDecidesAfterIssue, SpeaksTrue, AllSpeakTrue}
+use Rattle.promises.specs.Promises.{DecidedAfterIssue, EveryRunDecidesAfterIssue, SpeaksTrue, AllSpeakTrue}
 use Rattle.promises.proofs.Contents.{updated_same}
 use Rattle.promises.proofs.Counting.{one}
 use Rattle.promises.proofs.Spoken.{run_speaks}
@@ -19,12 +19,6 @@ serves_others m k j x ne = grind (arith, nat_tests)
 
 pub counts_it : (m : TaggedMemory) (k : ℕ) (x : Option Note) → (serve_noted m k x).decided ≡ k ∷ m.decided
 counts_it m k x = grind arith
-
-pub one_itself : (k : ℕ) → one k k ≡ 1
-one_itself k = grind (arith, nat_tests)
-
-pub one_other : (j k : ℕ) → (j ≡ k → ⊥) → one j k ≡ 0
-one_other j k ne = grind (arith, nat_tests)
 
 decides : (m : TaggedMemory) (k : ℕ) (x : Option Note) → is_some ((serve_noted m k x).gave k) ≡ true → DecidedAfterIssue m → DecidedAfterIssue (serve_noted m k x)
 decides m k x here was j often =
@@ -65,7 +59,7 @@ module _ (o : Opening) (m : TaggedMemory) (was : DecidedAfterIssue m) where
       cond_both (is_done a.outcome) (decide m a.number) m DecidedAfterIssue
       (λ e.
       let given = when_answered (is_answer a.outcome) (done_is_answer a.outcome e) speaks in
-      decides m a.number (m.noted a.number) (ap (λ (n : TaggedMemory). is_some (n.gave a.number)) (sym (cond-true (is_done a.outcome) (decide m a.number) m e)) ∙ ap is_some given.is) was)
+      decides m a.number (m.noted a.number) (grind (arith, given.is)) was)
       (λ e. was)
   after_call (settle slip (Err e)) speaks = was
   after_call (withdraw k a) speaks = was
@@ -77,7 +71,7 @@ module _ (o : Opening) (m : TaggedMemory) (was : DecidedAfterIssue m) where
 
 -- a history whose answers are the memory's decides only what was issued
 pub history_decides : (o : Opening) (h : List Call) → AllSpeakTrue o h → DecidedAfterIssue (one_memory o.memory h)
-history_decides o [] speaks = λ k often. absurd (let none : times k [] ≡ 0 = refl in omega (arith, often, none))
+history_decides o [] speaks = λ k often. absurd (omega arith)
 history_decides o (c ∷ h) speaks = after_call o (one_memory o.memory h) (history_decides o h speaks.1) c speaks.0
 
 pub decides_after_issue : EveryRunDecidesAfterIssue

@@ -2,7 +2,6 @@
 use Rattle.std.proofs.Common.{◌≡◌, ℕ, ◌<◌, ◌≤◌, Bool, true, false, cond, not, ◌&&◌, eqb, ◌⊎◌, List, [], ◌∷◌, ◌++◌, Some, None, Ok, Option, sym, refl, ap, ◌∙◌, subst, inl, inr, ⊎_elim, arith, rules}
 use Rattle.std.proofs.lemmas.Bool.Decides.{nat_tests}
 use Rattle.std.proofs.lemmas.Bool.{cases_eq, not-true, and_parts, cond-true, cond_both}
-use Rattle.std.proofs.lemmas.List.Sums.{sum_by-cons}
 use Rattle.protocol.specs.Rules.{Rules, Lawful}
 use Rattle.tagged.specs.Operations.{class_of, operation_coded}
 use Rattle.tagged.specs.declared.operations.Operation.{Operation}
@@ -16,10 +15,9 @@ use Rattle.promises.specs.OneMemory.{Note, TaggedMemory, note, serve_noted, deci
 use Rattle.promises.specs.Promises.{times, EveryEntry, InIssueOrder, IsDecidedOnce, EveryRunDecidesInIssueOrder}
 use Rattle.promises.proofs.Contents.{updated_same, updated_other, updated_each}
 use Rattle.promises.proofs.Frames.{same_state_as}
-use Rattle.promises.proofs.Counting.{one}
 use Rattle.promises.proofs.Entries.{every_weaker, every_both, every_append}
 use Rattle.promises.proofs.Rising.{Rising, Each, Within, within_same, within_then, within_wake, within_sleep, within_without, rising_append, ready_oldest}
-use Rattle.promises.proofs.Ordering.{At, OldestOnWord, Oldest, Earlier, Ordered, order_same, fewer_wait, oldest_within, oldest_kept, tenure_decided}
+use Rattle.promises.proofs.Ordering.{At, OldestOnWord, Oldest, Earlier, Ordered, order_same, fewer_wait, decided_before, oldest_within, oldest_kept, tenure_decided}
 use Rattle.promises.proofs.OnIssue.{answers}
 use Rattle.promises.proofs.Sound.{Noted, WaitsIn, TenureWaits, Sound, tenure_noted, answer_now, by_reply, by_issue, by_snoop, by_settle}
 use Rattle.promises.proofs.Coherent.{run_sound}
@@ -152,7 +150,7 @@ module _ (r : Rules) (m : TaggedMemory) (s : State) (sound : Sound r m s) (was :
         decided = counts_it noting s.next (noting.noted s.next)
 
         before : (j : ℕ) → (j ≡ s.next → ⊥) → 1 ≤ times j (decide noting s.next).decided → 1 ≤ times j m.decided
-        before j ne often = grind (arith, nat_tests, decided, sum_by-cons (one j) s.next m.decided)
+        before j ne often = decided_before m (decide noting s.next) s.next j decided ne often
 
         mine_at : (d x j : ℕ) → j ≡ s.next → At d x ((decide noting s.next).noted j) → (c ≡ d) × (w ≡ x)
         mine_at d x j same at = subst (At d x) (ap (decide noting s.next).noted same ∙ ap (λ f. f s.next) notes ∙ updated_same m.noted s.next _) at
@@ -197,7 +195,7 @@ module _ (r : Rules) (m : TaggedMemory) (s : State) (sound : Sound r m s) (was :
 
 module _ (r : Rules) (law : Lawful r) (o : Opening) where
   opening_ordered : Ordered (one_memory o.memory []) (opened o)
-  opening_ordered = record { rising = λ c. tt; below = λ j often. absurd (let none : times j [] ≡ 0 = refl in omega (arith, often, none)); oldest = tt; earlier = λ c. tt; order = tt }
+  opening_ordered = record { rising = λ c. tt; below = λ j often. absurd (omega arith); oldest = tt; earlier = λ c. tt; order = tt }
 
   pub run_ordered : (h : List Call) (s : State) → Ran r o h s → Ordered (one_memory o.memory h) s
   run_ordered _ s (opens agree) = subst (Ordered (one_memory o.memory [])) (sym (same_state_as agree)) opening_ordered

@@ -10,7 +10,6 @@ use Rattle.promises.proofs.Counting.{one}
 use Rattle.promises.proofs.Entries.{every_weaker, every_both, every_present}
 use Rattle.promises.proofs.Rising.{Rising, Each, Within}
 use Rattle.promises.proofs.Sound.{note_of, Noted, WaitsIn}
-use Rattle.promises.proofs.Deciding.{one_itself}
 
 -- a note of core c on word w
 abbrev pub At : ℕ → ℕ → Option Note → Type 0
@@ -18,8 +17,7 @@ At c w None = ⊥
 At c w (Some x) = (x.core ≡ c) × (x.word ≡ w)
 
 same_at : (y : Option Note) (x : Note) → SamePlace y (Some x) → At x.core x.word y
-same_at None x h = h
-same_at (Some y) x h = h
+same_at y x h = grind arith
 
 -- the tenure's request is the oldest of its core on its word
 abbrev pub OldestOnWord : State → Tenure → Type 0
@@ -67,6 +65,10 @@ oldest_kept s t free lists h = tt
 oldest_kept s t (granted x) lists h = oldest_within s t x lists h
 oldest_kept s t (snooped x f) lists h = oldest_within s t x lists h
 
+-- what was decided before k is decided
+pub decided_before : (m n : TaggedMemory) (k j : ℕ) → n.decided ≡ k ∷ m.decided → (j ≡ k → ⊥) → 1 ≤ times j n.decided → 1 ≤ times j m.decided
+decided_before m n k j decided ne often = grind (arith, nat_tests, decided, sum_by-cons (one j) k m.decided)
+
 -- the tenure's request is decided
 pub tenure_decided : (m n : TaggedMemory) (s : State) (t : Tenure) → WaitsIn s t → Noted m s.next t.core t.entry → OldestOnWord s t → n.noted ≡ m.noted → n.decided ≡ t.entry.number ∷ m.decided → IsDecidedOnce n → Ordered m s → Ordered n s
 tenure_decided m n s t here noted old notes decided once was = record {
@@ -81,7 +83,7 @@ tenure_decided m n s t here noted old notes decided once was = record {
     k = t.entry.number
 
     before : (j : ℕ) → (j ≡ t.entry.number → ⊥) → 1 ≤ times j n.decided → 1 ≤ times j m.decided
-    before j ne often = grind (arith, nat_tests, decided, sum_by-cons (one j) t.entry.number m.decided)
+    before j ne often = decided_before m n t.entry.number j decided ne often
 
     later : (c : ℕ) (e : Entry) → Earlier m c e.number e.word × (t.core ≡ c → t.entry.word ≡ e.word → t.entry.number ≤ e.number) → Earlier n c e.number e.word
     later c e h j often at =
@@ -95,6 +97,6 @@ tenure_decided m n s t here noted old notes decided once was = record {
         let at = same_at (n.noted j) (note_of t.core t.entry) (subst (SamePlace (n.noted j)) (ap (λ f. f t.entry.number) notes ∙ noted.note) place) in
         let most = every_present (λ e. Earlier m t.core e.number e.word) t.entry (s.waiting t.core) (λ e same h i often at. omega (arith, same.number, h i often (subst (λ w. At t.core w (m.noted i)) same.word at))) (was.earlier t.core) here.present j often (subst (At t.core t.entry.word) (ap (λ f. f j) notes) at) in
         ⊎_elim
-        (λ same. absurd (let twice = subst (λ ks. times t.entry.number ks ≤ 1) decided (once t.entry.number) in let again = subst (λ i. 1 ≤ times i m.decided) same often in omega (arith, twice, sum_by-cons (one t.entry.number) t.entry.number m.decided, one_itself t.entry.number, again)))
+        (λ same. grind (arith, nat_tests, decided, once t.entry.number, sum_by-cons (one t.entry.number) t.entry.number m.decided, subst (λ i. 1 ≤ times i m.decided) same often))
         (λ ne. omega (arith, most, ne))
         (cases_eq j t.entry.number)
