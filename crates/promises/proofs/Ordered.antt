@@ -1,7 +1,7 @@
 -- Every run decides requests of one core on one word in the order of their issue.
-use Rattle.std.proofs.Common.{◌≡◌, ℕ, ◌<◌, ◌≤◌, Bool, true, false, cond, not, ◌&&◌, eqb, ◌⊎◌, List, [], ◌∷◌, ◌++◌, Some, None, Ok, Option, sym, refl, ap, ◌∙◌, subst, inl, inr, ⊎_elim, arith, rules}
+use Rattle.std.proofs.Common.{◌≡◌, ℕ, ◌<◌, ◌≤◌, Bool, true, false, cond, not, ◌&&◌, eqb, List, [], ◌∷◌, ◌++◌, Some, None, Ok, Option, sym, refl, ap, ◌∙◌, subst, ⊎_elim, arith, rules}
 use Rattle.std.proofs.lemmas.Bool.Decides.{nat_tests}
-use Rattle.std.proofs.lemmas.Bool.{cases_eq, not-true, and_parts, cond-true, cond_both}
+use Rattle.std.proofs.lemmas.Bool.{cases_eq, cond-true, cond_both}
 use Rattle.protocol.specs.Rules.{Rules, Lawful}
 use Rattle.tagged.specs.Operations.{class_of, operation_coded}
 use Rattle.tagged.specs.declared.operations.Operation.{Operation}
@@ -11,17 +11,16 @@ use Rattle.promises.specs.Lists.{any_entry, on_word, without, put_to_sleep, olde
 use Rattle.promises.specs.Refusing.{first_reason, grant_reasons, slip_reasons, withdraw_reasons, evict_reasons, drain_reasons}
 use Rattle.promises.specs.Steps.{Step, updated, with_bus, grant_bus, in_reach, own_met, snoop_met, waits, snoop_kind, snoop_state, is_waits, settle_state, settle_answer, holder, withdrawn_state, evicted_state, drained_state, answers_now, issue_served, issue_now, issue_later}
 use Rattle.promises.specs.Runs.{Opening, opened, Ran, opens, goes_on}
-use Rattle.promises.specs.OneMemory.{Note, TaggedMemory, note, serve_noted, decide, noted_gives_up, is_done, is_answer, feed, one_memory}
-use Rattle.promises.specs.Promises.{times, EveryEntry, InIssueOrder, IsDecidedOnce, EveryRunDecidesInIssueOrder}
+use Rattle.promises.specs.OneMemory.{TaggedMemory, note, decide, noted_gives_up, is_done, is_answer, feed, one_memory}
+use Rattle.promises.specs.Promises.{EveryEntry, IsDecidedOnce, EveryRunDecidesInIssueOrder}
 use Rattle.promises.proofs.Contents.{updated_same, updated_other, updated_each}
 use Rattle.promises.proofs.Frames.{same_state_as}
-use Rattle.promises.proofs.Entries.{every_weaker, every_both, every_append}
+use Rattle.promises.proofs.Entries.{every_weaker, every_append}
 use Rattle.promises.proofs.Rising.{Rising, Each, Within, within_same, within_then, within_wake, within_sleep, within_without, rising_append, ready_oldest}
-use Rattle.promises.proofs.Ordering.{At, OldestOnWord, Oldest, Earlier, Ordered, order_same, fewer_wait, decided_before, oldest_within, oldest_kept, tenure_decided}
+use Rattle.promises.proofs.Ordering.{At, OldestOnWord, Oldest, Earlier, Ordered, order_same, fewer_wait, decide_ordered, oldest_within, oldest_kept, tenure_decided}
 use Rattle.promises.proofs.OnIssue.{answers}
 use Rattle.promises.proofs.Sound.{Noted, WaitsIn, TenureWaits, Sound, tenure_noted, answer_now, by_reply, by_issue, by_snoop, by_settle}
 use Rattle.promises.proofs.Coherent.{run_sound}
-use Rattle.promises.proofs.Deciding.{counts_it}
 use Rattle.promises.proofs.DecidedOnce.{decides_once}
 
 within_updated : (f : ℕ → List Entry) (c : ℕ) (l : List Entry) → Within (f c) l → (d : ℕ) → Within (f d) (updated f c l d)
@@ -31,33 +30,30 @@ within_updated f c l h d =
     (λ ne. subst (Within (f d)) (sym (updated_other f c d l ne)) (within_same (f d)))
     (cases_eq d c)
 
-serve_notes : (m : TaggedMemory) (k : ℕ) (x : Option Note) → (serve_noted m k x).noted ≡ m.noted
-serve_notes m k x = grind arith
-
 none_on_word : (w : ℕ) (es : List Entry) → any_entry (on_word w) es ≡ false → Each (λ k v. w ≡ v → ⊥) es
 none_on_word w [] h = tt
 none_on_word w (e ∷ es) h = ((λ q. grind (arith, nat_tests)), none_on_word w es (grind arith))
 
 module _ (r : Rules) (m : TaggedMemory) (s : State) (sound : Sound r m s) (was : Ordered m s) where
+  of_core : (c : ℕ) (P : Entry → Type 0) → EveryEntry P (s.waiting c) → (d : ℕ) → EveryEntry (λ e. c ≡ d → P e) (s.waiting d)
+  of_core c P h d =
+      ⊎_elim
+      (λ same. subst (λ i. EveryEntry (λ e. c ≡ i → P e) (s.waiting i)) same (every_weaker P (λ e. c ≡ c → P e) (λ e p q. p) (s.waiting c) h))
+      (λ ne. every_weaker (Noted m s.next d) (λ e. c ≡ d → P e) (λ e _ q. absurd (ne q)) (s.waiting d) (sound.notes d))
+      (cases_eq c d)
+
   -- GRANT
   granted_ordered : (c : ℕ) (x : Option Entry) → oldest_ready [] (s.waiting c) ≡ x → Ordered m (with_bus s (grant_bus s c x))
-  granted_ordered c None e = record { rising = was.rising; below = was.below; oldest = tt; earlier = was.earlier; order = was.order }
-  granted_ordered c (Some x) e = record {
-    rising = was.rising;
-    below = was.below;
-    oldest = λ d.
-        ⊎_elim
-        (λ same. subst (λ i. Each (λ k w. c ≡ i → x.word ≡ w → x.number ≤ k) (s.waiting i)) same (every_weaker (λ f. x.word ≡ f.word → x.number ≤ f.number) (λ f. c ≡ c → x.word ≡ f.word → x.number ≤ f.number) (λ f h q. h) (s.waiting c) (ready_oldest [] (s.waiting c) x (was.rising c) e).1))
-        (λ ne. every_weaker (Noted m s.next d) (λ f. c ≡ d → x.word ≡ f.word → x.number ≤ f.number) (λ f _ q. absurd (ne q)) (s.waiting d) (sound.notes d))
-        (cases_eq c d);
-    earlier = was.earlier;
-    order = was.order;
-  }
+  granted_ordered c x e = record { rising = was.rising; below = was.below; oldest = by x e; earlier = was.earlier; order = was.order }
+    where
+      by : (x : Option Entry) → oldest_ready [] (s.waiting c) ≡ x → Oldest (with_bus s (grant_bus s c x)) (grant_bus s c x)
+      by None e = tt
+      by (Some x) e = of_core c (λ f. x.word ≡ f.word → x.number ≤ f.number) (ready_oldest [] (s.waiting c) x (was.rising c) e).1
 
   -- the tenure's request, decided or not
   module _ (t : Tenure) (here : WaitsIn s t) (old : OldestOnWord s t) where
     decided_now : IsDecidedOnce (decide m t.entry.number) → Ordered (decide m t.entry.number) s
-    decided_now once = tenure_decided m (decide m t.entry.number) s t here (tenure_noted r m s t sound here) old (serve_notes m t.entry.number (m.noted t.entry.number)) (counts_it m t.entry.number (m.noted t.entry.number)) once was
+    decided_now once = tenure_decided m s t here (tenure_noted r m s t sound here) old once was
 
     decided_if : (b : Bool) → IsDecidedOnce (cond b (decide m t.entry.number) m) → Ordered (cond b (decide m t.entry.number) m) s
     decided_if b = cond_both b _ _ (λ n. IsDecidedOnce n → Ordered n s) (λ _. decided_now) (λ _ _. was)
@@ -135,49 +131,20 @@ module _ (r : Rules) (m : TaggedMemory) (s : State) (sound : Sound r m s) (was :
 
     -- answered at once: nothing of the core waits on the word
     now_ordered : any_entry (on_word w) (s.waiting c) ≡ false → Ordered (decide noting s.next) (issue_now r s c o w v)
-    now_ordered alone = record {
-      rising = λ d. (within_wake _ _ (s.waiting d)).rising (was.rising d);
-      below = λ j often. ⊎_elim (λ same. omega (arith, same)) (λ ne. omega (arith, was.below j (before j ne often))) (cases_eq j s.next);
-      oldest = oldest_kept s (issue_now r s c o w v) s.bus (λ d. within_wake _ _ (s.waiting d)) was.oldest;
-      earlier = λ d. (within_wake _ _ (s.waiting d)).each (Earlier (decide noting s.next) d) (later d (cases_eq c d));
-      order = subst (InIssueOrder (decide noting s.next)) (sym decided) ((λ j often place. was.below j often), order_same noting (decide noting s.next) m.decided (λ j often. ap (λ f. f j) notes) noted_ordered.order);
-    }
-      where
-        notes : (decide noting s.next).noted ≡ noting.noted
-        notes = serve_notes noting s.next (noting.noted s.next)
-
-        decided : (decide noting s.next).decided ≡ s.next ∷ m.decided
-        decided = counts_it noting s.next (noting.noted s.next)
-
-        before : (j : ℕ) → (j ≡ s.next → ⊥) → 1 ≤ times j (decide noting s.next).decided → 1 ≤ times j m.decided
-        before j ne often = decided_before m (decide noting s.next) s.next j decided ne often
-
-        mine_at : (d x j : ℕ) → j ≡ s.next → At d x ((decide noting s.next).noted j) → (c ≡ d) × (w ≡ x)
-        mine_at d x j same at = subst (At d x) (ap (decide noting s.next).noted same ∙ ap (λ f. f s.next) notes ∙ updated_same m.noted s.next _) at
-
-        kept_early : (d : ℕ) (e : Entry) → Earlier noting d e.number e.word → (c ≡ d → w ≡ e.word → ⊥) → Earlier (decide noting s.next) d e.number e.word
-        kept_early d e h other j often at =
-            ⊎_elim
-            (λ same. let place = mine_at d e.word j same at in absurd (other place.0 place.1))
-            (λ ne. h j (before j ne often) (subst (At d e.word) (ap (λ f. f j) notes) at))
-            (cases_eq j s.next)
-
-        later : (d : ℕ) → (c ≡ d) ⊎ (c ≡ d → ⊥) → Each (Earlier (decide noting s.next) d) (s.waiting d)
-        later d (inl same) =
-            every_weaker (λ e. Earlier noting d e.number e.word × (w ≡ e.word → ⊥)) (λ e. Earlier (decide noting s.next) d e.number e.word) (λ e h. kept_early d e h.0 (λ q. h.1)) (s.waiting d)
-            (every_both (λ e. Earlier noting d e.number e.word) (λ e. w ≡ e.word → ⊥) (s.waiting d) (noted_ordered.earlier d) (subst (λ i. Each (λ n x. w ≡ x → ⊥) (s.waiting i)) same (none_on_word w (s.waiting c) alone)))
-        later d (inr ne) = every_weaker (λ e. Earlier noting d e.number e.word) (λ e. Earlier (decide noting s.next) d e.number e.word) (λ e h. kept_early d e h (λ q. absurd (ne q))) (s.waiting d) (noted_ordered.earlier d)
+    now_ordered alone =
+        decide_ordered noting (issue_now r s c o w v) s.next (record { core = c; operation = o; word = w; value = v }) (updated_same m.noted s.next _) (omega arith) (λ j often place. was.below j often)
+        (λ d. (within_wake _ _ (s.waiting d)).each (λ i x. c ≡ d → w ≡ x → s.next ≤ i) (of_core c (λ e. w ≡ e.word → s.next ≤ e.number) (every_weaker (λ e. w ≡ e.word → ⊥) _ (λ e h q. absurd (h q)) (s.waiting c) (none_on_word w (s.waiting c) alone)) d))
+        (fewer_wait noting s (issue_now r s c o w v) noted_ordered (λ d. within_wake _ _ (s.waiting d)) (omega arith) (oldest_kept s (issue_now r s c o w v) s.bus (λ d. within_wake _ _ (s.waiting d)) was.oldest))
 
     issued : answers_now r s c o w v ≡ true → Ordered (feed m (issue c k w v (Ok (answer_now r s c o w v)))) (issue_now r s c o w v)
     issued y =
-        let reach = (and_parts (in_reach r s c o w v) _ y).0 in
-        let alone = not-true _ (and_parts (not (any_entry (on_word w) (s.waiting c))) _ reach).0 in
+        let alone : any_entry (on_word w) (s.waiting c) ≡ false = grind arith in
         subst (λ n. Ordered n (issue_now r s c o w v)) (sym (cond-true (is_answer (issue_served r s c o w v).outcome) (decide noting s.next) noting (answers r law m s sound c o w v y))) (now_ordered alone)
 
   pub call_ordered : Lawful r → (c : Call) (t : State) → Step r s c t → IsDecidedOnce (feed m c) → Ordered (feed m c) t
   call_ordered law (issue c k w v a) t step once = by_issue (λ b u. Ordered (feed m (issue c k w v b)) u) r s t c k w v a step (λ e. was) (issued law c k w v) (λ _. later_ordered law c k w v)
   call_ordered law (grant c a) t step once = by_reply (λ b u. Ordered m u) s t _ (first_reason (grant_reasons s c)) _ a step.0 step.1 (λ e. was) (λ none. granted_ordered c (oldest_ready [] (s.waiting c)) refl)
-  call_ordered law (give_back slip a) t step once = by_reply (λ b u. Ordered m u) s t (with_bus s free) (first_reason (slip_reasons s slip to_snoop)) _ a step.0 step.1 (λ e. was) (λ none. fewer_wait m s (with_bus s free) was (λ c. within_same (s.waiting c)) (omega arith) tt)
+  call_ordered law (give_back slip a) t step once = by_reply (λ b u. Ordered m u) s t (with_bus s free) (first_reason (slip_reasons s slip to_snoop)) _ a step.0 step.1 (λ e. was) (λ none. search rules)
   call_ordered law (snoop slip a) t step once =
       by_snoop (λ b u. IsDecidedOnce (feed m (snoop slip b)) → Ordered (feed m (snoop slip b)) u) r s t slip a step (λ e once. was)
       (λ x bus number. snooped_ordered slip x bus number (eqb (snoop_kind r s x) 3 && noted_gives_up (m.noted slip.number))) once
@@ -187,8 +154,8 @@ module _ (r : Rules) (m : TaggedMemory) (s : State) (sound : Sound r m s) (was :
   call_ordered law (withdraw k a) t step once =
       let lists = within_updated s.waiting (holder s k) (without k (s.waiting (holder s k))) (within_without k (s.waiting (holder s k))) in
       by_reply (λ b u. Ordered m u) s t (withdrawn_state s k) (first_reason (withdraw_reasons s k)) _ a step.0 step.1 (λ e. was) (λ none. fewer_wait m s (withdrawn_state s k) was lists (omega arith) (oldest_kept s (withdrawn_state s k) s.bus lists was.oldest))
-  call_ordered law (evict c w a) t step once = by_reply (λ b u. Ordered m u) s t (evicted_state r s c w) (first_reason (evict_reasons s r c w)) _ a step.0 step.1 (λ e. was) (λ none. fewer_wait m s (evicted_state r s c w) was (λ d. within_same (s.waiting d)) (omega arith) (oldest_kept s (evicted_state r s c w) s.bus (λ d. within_same (s.waiting d)) was.oldest))
-  call_ordered law (drain a) t step once = by_reply (λ b u. Ordered m u) s t (drained_state r s) (first_reason (drain_reasons s)) _ a step.0 step.1 (λ e. was) (λ none. fewer_wait m s (drained_state r s) was (λ d. within_same (s.waiting d)) (omega arith) (oldest_kept s (drained_state r s) s.bus (λ d. within_same (s.waiting d)) was.oldest))
+  call_ordered law (evict c w a) t step once = by_reply (λ b u. Ordered m u) s t (evicted_state r s c w) (first_reason (evict_reasons s r c w)) _ a step.0 step.1 (λ e. was) (λ none. search rules)
+  call_ordered law (drain a) t step once = by_reply (λ b u. Ordered m u) s t (drained_state r s) (first_reason (drain_reasons s)) _ a step.0 step.1 (λ e. was) (λ none. search rules)
   call_ordered law (look w a) t step once = subst (Ordered m) (sym (same_state_as step.1)) was
   call_ordered law (save before after a) t step once = subst (Ordered m) (sym (same_state_as step.2)) was
   call_ordered law (tally a) t step once = subst (Ordered m) (sym (same_state_as step.1)) was

@@ -4,11 +4,12 @@ use Rattle.std.proofs.lemmas.Bool.Decides.{nat_tests}
 use Rattle.std.proofs.lemmas.Bool.{cases_eq}
 use Rattle.std.proofs.lemmas.List.Sums.{sum_by-cons}
 use Rattle.promises.specs.Board.{Entry, Tenure, Bus, free, granted, snooped, State}
-use Rattle.promises.specs.OneMemory.{Note, TaggedMemory}
+use Rattle.promises.specs.OneMemory.{Note, TaggedMemory, serve_noted, decide}
 use Rattle.promises.specs.Promises.{times, SamePlace, InIssueOrder, IsDecidedOnce}
 use Rattle.promises.proofs.Counting.{one}
 use Rattle.promises.proofs.Entries.{every_weaker, every_both, every_present}
 use Rattle.promises.proofs.Rising.{Rising, Each, Within}
+use Rattle.promises.proofs.Deciding.{counts_it}
 use Rattle.promises.proofs.Sound.{note_of, Noted, WaitsIn}
 
 -- a note of core c on word w
@@ -65,38 +66,36 @@ oldest_kept s t free lists h = tt
 oldest_kept s t (granted x) lists h = oldest_within s t x lists h
 oldest_kept s t (snooped x f) lists h = oldest_within s t x lists h
 
--- what was decided before k is decided
-pub decided_before : (m n : TaggedMemory) (k j : ℕ) → n.decided ≡ k ∷ m.decided → (j ≡ k → ⊥) → 1 ≤ times j n.decided → 1 ≤ times j m.decided
-decided_before m n k j decided ne often = grind (arith, nat_tests, decided, sum_by-cons (one j) k m.decided)
-
--- the tenure's request is decided
-pub tenure_decided : (m n : TaggedMemory) (s : State) (t : Tenure) → WaitsIn s t → Noted m s.next t.core t.entry → OldestOnWord s t → n.noted ≡ m.noted → n.decided ≡ t.entry.number ∷ m.decided → IsDecidedOnce n → Ordered m s → Ordered n s
-tenure_decided m n s t here noted old notes decided once was = record {
-  rising = was.rising;
-  below = λ j often. ⊎_elim (λ same. omega (arith, same, noted.below)) (λ ne. was.below j (before j ne often)) (cases_eq j k);
-  oldest = was.oldest;
-  earlier = λ c. every_weaker (λ e. Earlier m c e.number e.word × (t.core ≡ c → t.entry.word ≡ e.word → k ≤ e.number)) (λ e. Earlier n c e.number e.word) (later c) (s.waiting c) (every_both (λ e. Earlier m c e.number e.word) (λ e. t.core ≡ c → t.entry.word ≡ e.word → k ≤ e.number) (s.waiting c) (was.earlier c) (old c));
-  order = subst (InIssueOrder n) (sym decided) (newest, order_same m n m.decided (λ j often. ap (λ f. f j) notes) was.order);
-}
+-- a noted request is decided that is the oldest waiting one, and the newest decided one, of its core on its word
+pub decide_ordered : (m : TaggedMemory) (s : State) (k : ℕ) (x : Note) → m.noted k ≡ Some x → k < s.next → ((j : ℕ) → 1 ≤ times j m.decided → SamePlace (m.noted j) (Some x) → j < k) → ((c : ℕ) → Each (λ i w. x.core ≡ c → x.word ≡ w → k ≤ i) (s.waiting c)) → Ordered m s → Ordered (decide m k) s
+decide_ordered m s k x noted below newest oldest was =
+    subst (λ y. Ordered (serve_noted m k y) s) (sym noted)
+    (record {
+      rising = was.rising;
+      below = λ j often. ⊎_elim (λ same. omega (arith, same, below)) (λ ne. was.below j (before j ne often)) (cases_eq j k);
+      oldest = was.oldest;
+      earlier = λ c. every_weaker (λ e. Earlier m c e.number e.word × (x.core ≡ c → x.word ≡ e.word → k ≤ e.number)) (λ e. Earlier (serve_noted m k (Some x)) c e.number e.word) (later c) (s.waiting c) (every_both (λ e. Earlier m c e.number e.word) (λ e. x.core ≡ c → x.word ≡ e.word → k ≤ e.number) (s.waiting c) (was.earlier c) (oldest c));
+      order = ((λ j often place. newest j often (subst (SamePlace (m.noted j)) noted place)), was.order);
+    })
   where
-    k : ℕ
-    k = t.entry.number
+    before : (j : ℕ) → (j ≡ k → ⊥) → 1 ≤ times j (k ∷ m.decided) → 1 ≤ times j m.decided
+    before j ne often = grind (arith, nat_tests, sum_by-cons (one j) k m.decided)
 
-    before : (j : ℕ) → (j ≡ t.entry.number → ⊥) → 1 ≤ times j n.decided → 1 ≤ times j m.decided
-    before j ne often = decided_before m n t.entry.number j decided ne often
-
-    later : (c : ℕ) (e : Entry) → Earlier m c e.number e.word × (t.core ≡ c → t.entry.word ≡ e.word → t.entry.number ≤ e.number) → Earlier n c e.number e.word
+    later : (c : ℕ) (e : Entry) → Earlier m c e.number e.word × (x.core ≡ c → x.word ≡ e.word → k ≤ e.number) → Earlier (serve_noted m k (Some x)) c e.number e.word
     later c e h j often at =
         ⊎_elim
-        (λ same. let place : At c e.word (Some (note_of t.core t.entry)) = subst (At c e.word) (ap n.noted same ∙ ap (λ f. f t.entry.number) notes ∙ noted.note) at in omega (arith, same, h.1 place.0 place.1))
-        (λ ne. h.0 j (before j ne often) (subst (At c e.word) (ap (λ f. f j) notes) at))
-        (cases_eq j t.entry.number)
+        (λ same. let place : At c e.word (Some x) = subst (At c e.word) (ap m.noted same ∙ noted) at in omega (arith, same, h.1 place.0 place.1))
+        (λ ne. h.0 j (before j ne often) at)
+        (cases_eq j k)
 
-    newest : (j : ℕ) → 1 ≤ times j m.decided → SamePlace (n.noted j) (n.noted t.entry.number) → j < t.entry.number
+-- the tenure's request is decided
+pub tenure_decided : (m : TaggedMemory) (s : State) (t : Tenure) → WaitsIn s t → Noted m s.next t.core t.entry → OldestOnWord s t → IsDecidedOnce (decide m t.entry.number) → Ordered m s → Ordered (decide m t.entry.number) s
+tenure_decided m s t here noted old once was = decide_ordered m s t.entry.number (note_of t.core t.entry) noted.note noted.below newest old was
+  where
+    newest : (j : ℕ) → 1 ≤ times j m.decided → SamePlace (m.noted j) (Some (note_of t.core t.entry)) → j < t.entry.number
     newest j often place =
-        let at = same_at (n.noted j) (note_of t.core t.entry) (subst (SamePlace (n.noted j)) (ap (λ f. f t.entry.number) notes ∙ noted.note) place) in
-        let most = every_present (λ e. Earlier m t.core e.number e.word) t.entry (s.waiting t.core) (λ e same h i often at. omega (arith, same.number, h i often (subst (λ w. At t.core w (m.noted i)) same.word at))) (was.earlier t.core) here.present j often (subst (At t.core t.entry.word) (ap (λ f. f j) notes) at) in
+        let most = every_present (λ e. Earlier m t.core e.number e.word) t.entry (s.waiting t.core) (λ e same h i often at. omega (arith, same.number, h i often (subst (λ w. At t.core w (m.noted i)) same.word at))) (was.earlier t.core) here.present j often (same_at (m.noted j) (note_of t.core t.entry) place) in
         ⊎_elim
-        (λ same. grind (arith, nat_tests, decided, once t.entry.number, sum_by-cons (one t.entry.number) t.entry.number m.decided, subst (λ i. 1 ≤ times i m.decided) same often))
+        (λ same. grind (arith, nat_tests, once t.entry.number, counts_it m t.entry.number (m.noted t.entry.number), sum_by-cons (one t.entry.number) t.entry.number m.decided, subst (λ i. 1 ≤ times i m.decided) same often))
         (λ ne. omega (arith, most, ne))
         (cases_eq j t.entry.number)
