@@ -1,14 +1,14 @@
 -- Every run is accounted for.
-use Rattle.std.proofs.Common.{◌≡◌, ℕ, List, [], ◌∷◌, sym, refl, subst, arith}
+use Rattle.std.proofs.lemmas.Bool.Decides.{nat_tests}
+use Rattle.std.proofs.Common.{◌≡◌, ℕ, List, ◌∷◌, arith}
 use Rattle.std.proofs.lemmas.List.Sums.{sum_by-append}
 use Rattle.protocol.specs.Rules.{Rules, Lawful}
 use Rattle.promises.specs.Board.{State}
 use Rattle.promises.specs.Calls.{Call, issue, grant, give_back, snoop, settle, withdraw, evict, drain, look, save, tally}
 use Rattle.promises.specs.Steps.{Step}
-use Rattle.promises.specs.Runs.{Opening, opened, Ran, opens, goes_on}
+use Rattle.promises.specs.Runs.{Opening, Ran, opens, goes_on}
 use Rattle.promises.specs.OneMemory.{one_memory}
-use Rattle.promises.specs.Promises.{times, waiting_numbers, TallyCounts, TallyIsTrue, TalliesAreTrue, Accounted, EveryRunIsAccounted}
-use Rattle.promises.proofs.Frames.{same_state_as}
+use Rattle.promises.specs.Promises.{times, waiting_numbers, TallyIsTrue, TalliesAreTrue, Accounted, EveryRunIsAccounted}
 use Rattle.promises.proofs.Counting.{one}
 use Rattle.promises.proofs.Accounts.{waits_for, Accounts}
 use Rattle.promises.proofs.Adding.{issue_adds, grant_adds, give_back_adds, snoop_adds, settle_adds, withdraw_adds, evict_adds, drain_adds, look_adds, save_adds, tally_adds}
@@ -20,19 +20,6 @@ waiting_times : (s : State) (k : ℕ) → times k (waiting_numbers s) ≡ waits_
 waiting_times s k = simp (sum_by-append (one k)) (omega arith)
 
 module _ (r : Rules) (law : Lawful r) (o : Opening) where
-  opening_accounts : Accounts [] (opened o)
-  opening_accounts = record {
-    account = λ k. refl;
-    fresh = λ k h. refl;
-    once = λ k. omega arith;
-    accepted = refl;
-    done = refl;
-    discarded = refl;
-    trapped = refl;
-    withdrawn = refl;
-    sum = refl;
-  }
-
   step : (h : List Call) (s t : State) (c : Call) → Sound r (one_memory o.memory h) s → Accounts h s → Step r s c t → Accounts (c ∷ h) t
   step h s t (issue c k w v a) sound was x = issue_adds h s was r law (one_memory o.memory h) sound c k w v a t x
   step h s t (grant c a) sound was x = grant_adds h s was r c a t x
@@ -47,7 +34,7 @@ module _ (r : Rules) (law : Lawful r) (o : Opening) where
   step h s t (tally a) sound was x = tally_adds h s was r a t x
 
   pub run_accounts : (h : List Call) (s : State) → Ran r o h s → Accounts h s
-  run_accounts _ s (opens agree) = subst (Accounts []) (sym (same_state_as agree)) opening_accounts
+  run_accounts _ s (opens agree) = grind (arith, nat_tests)
   run_accounts _ t (goes_on {h} {s} c before taken) = step h s t c (run_sound r law o h s before) (run_accounts h s before) taken
 
   -- a tally answers the counts
@@ -62,7 +49,7 @@ module _ (r : Rules) (law : Lawful r) (o : Opening) where
   tally_true h s t (drain a) was x = tt
   tally_true h s t (look w a) was x = tt
   tally_true h s t (save before after a) was x = tt
-  tally_true h s t (tally a) was x = subst (TallyCounts h) (sym x.0) (record { accepted = was.accepted; done = was.done; discarded = was.discarded; trapped = was.trapped; withdrawn = was.withdrawn; sum = was.sum })
+  tally_true h s t (tally a) was x = grind (arith, nat_tests)
 
   run_tallies : (h : List Call) (s : State) → Ran r o h s → TalliesAreTrue h
   run_tallies _ s (opens agree) = tt

@@ -1,6 +1,5 @@
 -- Lines and their words: what a changed word leaves.
-use Rattle.std.proofs.Common.{◌≡◌, ℕ, ◌%◌, ◌⊎◌, sym, subst, ⊎_elim, arith}
-use Rattle.std.proofs.lemmas.Bool.{cases_eq}
+use Rattle.std.proofs.Common.{◌≡◌, ℕ, ◌%◌, ◌⊎◌, arith}
 use Rattle.std.proofs.lemmas.Bool.Decides.{nat_tests}
 use Rattle.tagged.specs.declared.words.Word.{Word}
 use Rattle.promises.specs.Board.{Content, word_in, with_word_in, line_of}
@@ -22,11 +21,7 @@ updated_back f k x e = λ i j. at j i
 
 -- what holds of every value holds still, if it holds of the new one
 pub updated_each : {A : Type 0} (P : ℕ → A → Type 0) (f : ℕ → A) (k : ℕ) (x : A) → (P k (f k) → P k x) → (j : ℕ) → P j (f j) → P j (updated f k x j)
-updated_each P f k x new j h =
-    ⊎_elim
-    (λ same. subst (λ i. P i (f i) → P i (updated f k x i)) (sym same) (λ old. rw updated_same (new old)) h)
-    (λ ne. rw (updated_other f k j x ne) h)
-    (cases_eq j k)
+updated_each P f k x new j h = grind (arith, nat_tests)
 
 -- the four places of a line
 places : (w : ℕ) → (w % 4 ≡ 0) ⊎ ((w % 4 ≡ 1) ⊎ ((w % 4 ≡ 2) ⊎ (w % 4 ≡ 3)))

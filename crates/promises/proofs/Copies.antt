@@ -4,13 +4,13 @@ use Rattle.std.proofs.lemmas.Bool.Decides.{nat_tests}
 use Rattle.std.proofs.lemmas.Bool.{cases_eq, cases_Bool, and_left, both_ways, cond-true, cond-false, false_from_ne_true}
 use Rattle.protocol.specs.Rules.{Rules, Lawful}
 use Rattle.tagged.specs.declared.words.Word.{Word}
-use Rattle.promises.specs.Board.{Frame, own_copy, read_in, claimed, unmet, Bus, free, granted, snooped, State, line_of, frame_of}
+use Rattle.promises.specs.Board.{Frame, own_copy, read_in, claimed, unmet, Bus, free, granted, snooped, State, line_of}
 use Rattle.promises.specs.Copies.{copy, keeps, owns, owes, any_core}
 use Rattle.promises.specs.Refusing.{is_free}
-use Rattle.promises.specs.Steps.{dropped, evicted_state, drained_state}
+use Rattle.promises.specs.Steps.{evicted_state, drained_state}
 use Rattle.promises.specs.OneMemory.{line_by_words}
 use Rattle.promises.specs.Promises.{WritersAreAlone}
-use Rattle.promises.proofs.Frames.{kept_of, keeps_same, frame_cases, lowest_passes, no_core_passes}
+use Rattle.promises.proofs.Frames.{kept_of, keeps_same, lowest_passes, no_core_passes}
 
 -- line n travels on the bus to be claimed
 abbrev pub claiming : Bus → ℕ → Bool
@@ -37,7 +37,7 @@ pub record Fewer (r : Rules) (s t : State) : Type 0 where
 
 module _ (r : Rules) (T : ℕ → Word) (s t : State) (was : Copies r T s) (fewer : Fewer r s t) where
   pub fewer_true : (c n : ℕ) → keeps r t c n ≡ true → (copy t c n).content ≡ line_by_words T n
-  fewer_true c n k = fewer.content c n k ∙ was.true_copies c n (fewer.kept c n k)
+  fewer_true c n k = grind (arith, nat_tests)
 
   pub fewer_alone : WritersAreAlone r t
   fewer_alone c d n own k = was.alone c d n (fewer.sole c n own) (fewer.kept d n k)
@@ -74,7 +74,7 @@ module _ (r : Rules) (law : Lawful r) (T : ℕ → Word) (s : State) (c w : ℕ)
 
   place : (d n : ℕ) → ((d ≡ c) × (n % 16 ≡ line_of w % 16) × ((copy after d n).code ≡ 0)) ⊎ (((d ≡ c) × (n % 16 ≡ line_of w % 16) → ⊥) × (copy after d n ≡ copy s d n))
   unfolding after
-  place d n = grind (arith, frame_cases s.frame c (frame_of (line_of w)) (dropped (copy s c (line_of w))) d (frame_of n))
+  place d n = grind (arith, nat_tests)
 
   unchanged : (d n : ℕ) → keeps r after d n ≡ true → copy after d n ≡ copy s d n
   unchanged d n k = ⊎_elim (λ p. absurd (keeps_empty r law after d n p.2 k)) (λ p. p.1) (place d n)

@@ -1,5 +1,5 @@
 -- Which copies a change of frames leaves as they were.
-use Rattle.std.proofs.Common.{◌≡◌, ℕ, ◌<◌, Bool, true, false, ◌&&◌, eqb, ltb, ◌⊎◌, ap, arith}
+use Rattle.std.proofs.Common.{◌≡◌, ℕ, ◌<◌, Bool, true, false, ◌⊎◌, arith}
 use Rattle.std.proofs.lemmas.Bool.Decides.{nat_tests}
 use Rattle.protocol.specs.Rules.{Rules}
 use Rattle.promises.specs.Board.{Frame, State}
@@ -8,15 +8,7 @@ use Rattle.promises.specs.Steps.{Agree, updated_frame}
 
 -- states that agree place by place are equal
 pub same_state_as : {s t : State} → Agree s t → s ≡ t
-same_state_as p = λ i. record {
-  setup = p.setup i;
-  next = p.next i;
-  counts = p.counts i;
-  frame = λ c j. p.frame c j i;
-  waiting = λ c. p.waiting c i;
-  bus = p.bus i;
-  memory = λ n. p.memory n i;
-}
+same_state_as p = grind (arith, nat_tests)
 
 -- cache c keeps line n
 pub record Kept (r : Rules) (s : State) (c n : ℕ) : Type 0 where
@@ -36,7 +28,7 @@ module _ (r : Rules) (s : State) where
 -- the same frame is kept in one state as in the other
 pub keeps_same : (r : Rules) (s t : State) (c n : ℕ) → copy s c n ≡ copy t c n → keeps r s c n ≡ keeps r t c n
 unfolding keeps
-keeps_same r s t c n e = ap (λ (f : Frame). ltb c 8 && (eqb f.line n && r.kept f.code)) e
+keeps_same r s t c n e = grind (arith, nat_tests)
 
 pub frame_cases : (f : ℕ → ℕ → Frame) (c i : ℕ) (x : Frame) (d j : ℕ) → ((d ≡ c) × (j ≡ i) × (updated_frame f c i x d j ≡ x)) ⊎ (((d ≡ c) × (j ≡ i) → ⊥) × (updated_frame f c i x d j ≡ f d j))
 frame_cases f c i x d j = grind (arith, nat_tests)

@@ -1,7 +1,7 @@
 -- A word of a kept copy is changed where it stands: by an issue that answers, or by a settle of kind 0.
 use Rattle.std.proofs.Common.{◌≡◌, ℕ, ◌%◌, ◌<◌, Bool, true, false, cond, sym, ap, ◌∙◌, ⊎_elim, arith}
 use Rattle.std.proofs.lemmas.Bool.Decides.{nat_tests}
-use Rattle.std.proofs.lemmas.Bool.{cases_eq, cases_Bool, and_from, and_left, cond_both, false_from_ne_true}
+use Rattle.std.proofs.lemmas.Bool.{cases_eq, cases_Bool, and_left, cond_both, false_from_ne_true}
 use Rattle.protocol.specs.Rules.{Rules, Lawful}
 use Rattle.tagged.specs.declared.words.Word.{Word}
 use Rattle.promises.specs.Board.{Content, word_in, with_word_in, Frame, State, line_of, frame_of}
@@ -75,7 +75,7 @@ module _ (r : Rules) (law : Lawful r) (T : ℕ → Word) (s : State) (c w : ℕ)
 
     -- a claim is made on the only copy
     alone_claim : claim ≡ true → (d : ℕ) → keeps r s d n ≡ true → d ≡ c
-    alone_claim t d k = was.alone c d n (and_from (keeps r s c n) _ kept (sole t)) k
+    alone_claim t d k = grind (arith, nat_tests)
 
     put : Put r T (changed T g w) s c n code content after
     put = record {

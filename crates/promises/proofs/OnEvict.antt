@@ -1,14 +1,15 @@
 -- Evict and drain.
+use Rattle.std.proofs.lemmas.Bool.Decides.{nat_tests}
 use Rattle.std.proofs.Common.{◌≡◌, ℕ, ◌%◌, true, false, ◌⊎◌, sym, refl, ap, ◌∙◌, arith}
 use Rattle.std.proofs.lemmas.Bool.{eqb-false, not-false, false_from_ne_true}
 use Rattle.protocol.specs.Rules.{Rules, Lawful}
-use Rattle.promises.specs.Board.{Bus, free, granted, snooped, State, line_of, frame_of}
+use Rattle.promises.specs.Board.{Bus, free, granted, snooped, State, line_of}
 use Rattle.promises.specs.Calls.{OrRefused, evict, drain}
 use Rattle.promises.specs.Copies.{copy, keeps}
 use Rattle.promises.specs.Refusing.{first_reason, is_free, bus_on_line, evict_reasons, drain_reasons}
 use Rattle.promises.specs.Steps.{Step, dropped, evicted_state, drained_state}
 use Rattle.promises.specs.OneMemory.{TaggedMemory, feed}
-use Rattle.promises.proofs.Frames.{keeps_same, frame_cases}
+use Rattle.promises.proofs.Frames.{keeps_same}
 use Rattle.promises.proofs.Copies.{keeps_empty, one_line, evict_copies, drain_copies}
 use Rattle.promises.proofs.Tenures.{Like, found_like, BusTrue}
 use Rattle.promises.proofs.Sound.{Sound, TenureWaits, tenure_kept, cleared, by_reply}
@@ -22,7 +23,7 @@ module _ (r : Rules) (law : Lawful r) (m : TaggedMemory) (s : State) (was : Soun
   }
     where
       place : (d : ℕ) → ((d ≡ c) × (n % 16 ≡ line_of w % 16) × (copy (evicted_state r s c w) d n ≡ dropped (copy s c (line_of w)))) ⊎ (((d ≡ c) × (n % 16 ≡ line_of w % 16) → ⊥) × (copy (evicted_state r s c w) d n ≡ copy s d n))
-      place d = frame_cases s.frame c (frame_of (line_of w)) (dropped (copy s c (line_of w))) d (frame_of n)
+      place d = grind (arith, nat_tests)
 
       gone : (d : ℕ) → (d ≡ c) × (n % 16 ≡ line_of w % 16) × (copy (evicted_state r s c w) d n ≡ dropped (copy s c (line_of w))) → keeps r s d n ≡ false
       gone d p = false_from_ne_true _ (λ k. ne (one_line r s c n (line_of w) (ap (λ x. keeps r s x n) (sym p.0) ∙ k) kept p.1))

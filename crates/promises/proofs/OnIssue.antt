@@ -46,7 +46,7 @@ module _ (r : Rules) (law : Lawful r) (m : TaggedMemory) (s : State) (was : Soun
 
   -- notes of waiting requests stay: their numbers were given before
   old_note : (d : ℕ) (e : Entry) → Noted m s.next d e → Noted noting (s.next + 1) d e
-  old_note d e h = record { note = grind (arith, nat_tests, h.note, h.below); below = omega (arith, h.below) }
+  old_note d e h = grind (arith, nat_tests)
 
   -- LATER: the request waits
   later_present : (t : Tenure) → WaitsIn s t → WaitsIn (issue_later r s c o w v) t
@@ -197,7 +197,7 @@ module _ (r : Rules) (law : Lawful r) (m : TaggedMemory) (s : State) (was : Soun
         word = ap (λ x. (serve_noted noting s.next x).word) fresh
 
         noted_again : (d : ℕ) (e : Entry) → Noted noting (s.next + 1) d e → Noted deciding (s.next + 1) d e
-        noted_again d e h = record { note = ap (λ x. (serve_noted noting s.next x).noted e.number) fresh ∙ h.note; below = h.below }
+        noted_again d e h = grind (arith, nat_tests)
 
     -- an issue that answers at once answers for good
     pub answers : is_answer (issue_served r s c o w v).outcome ≡ true

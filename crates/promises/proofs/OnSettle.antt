@@ -1,5 +1,6 @@
 -- Settle.
-use Rattle.std.proofs.Common.{◌≡◌, ℕ, ◌≤◌, List, map, Some, Ok, Option, sym, refl, ap, ◌∙◌, subst}
+use Rattle.std.proofs.lemmas.Bool.Decides.{nat_tests}
+use Rattle.std.proofs.Common.{◌≡◌, ℕ, ◌≤◌, List, map, Some, Ok, Option, sym, refl, ap, ◌∙◌, subst, arith}
 use Rattle.std.proofs.lemmas.Bool.{cond-true, cond-false, cond_both}
 use Rattle.protocol.specs.Rules.{Rules, Lawful}
 use Rattle.tagged.specs.declared.answers.Answer.{Answer}
@@ -9,7 +10,7 @@ use Rattle.promises.specs.Board.{Content, Entry, Tenure, Found, own_copy, read_i
 use Rattle.tagged.specs.Rule.{met, done_by}
 use Rattle.promises.specs.Board.{word_in}
 use Rattle.promises.specs.Calls.{Slip, OrRefused, settle}
-use Rattle.promises.specs.Lists.{without, wakes, wake}
+use Rattle.promises.specs.Lists.{without, wake}
 use Rattle.promises.specs.Steps.{Step, updated, is_waits, settle_state, settle_answer}
 use Rattle.promises.specs.OneMemory.{TaggedMemory, serve_noted, decide, is_done, feed, line_by_words}
 use Rattle.promises.specs.Promises.{EveryEntry}
@@ -23,7 +24,7 @@ use Rattle.promises.proofs.Sound.{Noted, WaitsIn, TenureWaits, Sound, same_frame
 
 -- a note stays true of a request that wakes
 pub noted_wake : (m : TaggedMemory) (next c : ℕ) (n : Option Notice) (w : ℕ) (e : Entry) → Noted m next c e → Noted m next c (wake n w e)
-noted_wake m next c n w e h = cond_both (wakes n w e) _ _ (Noted m next c) (λ t. record { note = h.note; below = h.below }) (λ f. h)
+noted_wake m next c n w e h = grind (arith, nat_tests)
 
 module _ (r : Rules) (law : Lawful r) (m : TaggedMemory) (s : State) (was : Sound r m s) (slip : Slip) where
   module _ (t : Tenure) (f : Found) (bus : s.bus ≡ snooped t f) where

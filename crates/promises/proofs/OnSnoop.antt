@@ -1,9 +1,9 @@
 -- Snoop.
+use Rattle.std.proofs.lemmas.Bool.Decides.{nat_tests}
 use Rattle.std.proofs.Common.{◌≡◌, ℕ, true, false, not, ◌&&◌, eqb, List, Some, Ok, sym, refl, ap, ◌∙◌, subst, arith}
-use Rattle.std.proofs.lemmas.Bool.{not-true, and_parts, cond-false, cond_both}
+use Rattle.std.proofs.lemmas.Bool.{not-true, and_parts, cond_both}
 use Rattle.protocol.specs.Rules.{Rules, Lawful}
 use Rattle.tagged.specs.declared.operations.Operation.{Operation}
-use Rattle.tagged.specs.declared.rule.Served.{Served}
 use Rattle.tagged.specs.declared.words.Word.{Word}
 use Rattle.promises.specs.Board.{Entry, Tenure, granted, State}
 use Rattle.tagged.specs.Operations.{class_of}
@@ -23,7 +23,7 @@ use Rattle.promises.proofs.Sound.{Noted, WaitsIn, TenureWaits, Sound, same_memor
 
 -- an unmet operation leaves the word
 pub unmet_word : (o : Operation) (x : Word) (v : ℕ) → met o x.state ≡ false → (rule o x v).word ≡ x
-unmet_word o x v e = ap (λ (y : Served). y.word) (cond-false (met o x.state) _ _ e)
+unmet_word o x v e = grind (arith, nat_tests)
 
 module _ (r : Rules) (law : Lawful r) (m : TaggedMemory) (s : State) (was : Sound r m s) (slip : Slip) where
   module _ (t : Tenure) (bus : s.bus ≡ granted t) where

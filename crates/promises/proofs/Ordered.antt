@@ -1,5 +1,5 @@
 -- Every run decides requests of one core on one word in the order of their issue.
-use Rattle.std.proofs.Common.{◌≡◌, ℕ, ◌<◌, ◌≤◌, Bool, true, false, cond, not, ◌&&◌, eqb, List, [], ◌∷◌, ◌++◌, Some, None, Ok, Option, sym, refl, ap, ◌∙◌, subst, ⊎_elim, arith, rules}
+use Rattle.std.proofs.Common.{◌≡◌, ℕ, ◌<◌, ◌≤◌, Bool, true, false, cond, not, ◌&&◌, eqb, List, [], ◌∷◌, ◌++◌, Some, None, Ok, Option, sym, refl, subst, ⊎_elim, arith, rules}
 use Rattle.std.proofs.lemmas.Bool.Decides.{nat_tests}
 use Rattle.std.proofs.lemmas.Bool.{cases_eq, cond-true, cond_both}
 use Rattle.protocol.specs.Rules.{Rules, Lawful}
@@ -10,10 +10,10 @@ use Rattle.promises.specs.Calls.{to_snoop, Slip, Call, issue, grant, give_back, 
 use Rattle.promises.specs.Lists.{any_entry, on_word, without, put_to_sleep, oldest_ready}
 use Rattle.promises.specs.Refusing.{first_reason, grant_reasons, slip_reasons, withdraw_reasons, evict_reasons, drain_reasons}
 use Rattle.promises.specs.Steps.{Step, updated, with_bus, grant_bus, in_reach, own_met, snoop_met, waits, snoop_kind, snoop_state, is_waits, settle_state, settle_answer, holder, withdrawn_state, evicted_state, drained_state, answers_now, issue_served, issue_now, issue_later}
-use Rattle.promises.specs.Runs.{Opening, opened, Ran, opens, goes_on}
+use Rattle.promises.specs.Runs.{Opening, Ran, opens, goes_on}
 use Rattle.promises.specs.OneMemory.{TaggedMemory, note, decide, noted_gives_up, is_done, is_answer, feed, one_memory}
 use Rattle.promises.specs.Promises.{EveryEntry, IsDecidedOnce, EveryRunDecidesInIssueOrder}
-use Rattle.promises.proofs.Contents.{updated_same, updated_other, updated_each}
+use Rattle.promises.proofs.Contents.{updated_same, updated_each}
 use Rattle.promises.proofs.Frames.{same_state_as}
 use Rattle.promises.proofs.Entries.{every_weaker, every_append}
 use Rattle.promises.proofs.Rising.{Rising, Each, Within, within_same, within_then, within_wake, within_sleep, within_without, rising_append, ready_oldest}
@@ -24,11 +24,7 @@ use Rattle.promises.proofs.Coherent.{run_sound}
 use Rattle.promises.proofs.DecidedOnce.{decides_once}
 
 within_updated : (f : ℕ → List Entry) (c : ℕ) (l : List Entry) → Within (f c) l → (d : ℕ) → Within (f d) (updated f c l d)
-within_updated f c l h d =
-    ⊎_elim
-    (λ same. subst (Within (f d)) (sym (ap (updated f c l) same ∙ updated_same f c l)) (subst (λ i. Within (f i) l) (sym same) h))
-    (λ ne. subst (Within (f d)) (sym (updated_other f c d l ne)) (within_same (f d)))
-    (cases_eq d c)
+within_updated f c l h d = grind (arith, nat_tests)
 
 none_on_word : (w : ℕ) (es : List Entry) → any_entry (on_word w) es ≡ false → Each (λ k v. w ≡ v → ⊥) es
 none_on_word w [] h = tt
@@ -93,7 +89,7 @@ module _ (r : Rules) (m : TaggedMemory) (s : State) (sound : Sound r m s) (was :
     noting = note m s.next (record { core = c; operation = operation_coded k; word = w; value = v })
 
     old_note : (j : ℕ) → j < s.next → noting.noted j ≡ m.noted j
-    old_note j less = updated_other m.noted s.next j _ (λ same. omega (arith, same, less))
+    old_note j less = grind (arith, nat_tests)
 
     noted_ordered : Ordered noting s
     noted_ordered = record {
@@ -161,11 +157,8 @@ module _ (r : Rules) (m : TaggedMemory) (s : State) (sound : Sound r m s) (was :
   call_ordered law (tally a) t step once = subst (Ordered m) (sym (same_state_as step.1)) was
 
 module _ (r : Rules) (law : Lawful r) (o : Opening) where
-  opening_ordered : Ordered (one_memory o.memory []) (opened o)
-  opening_ordered = record { rising = λ c. tt; below = λ j often. absurd (omega arith); oldest = tt; earlier = λ c. tt; order = tt }
-
   pub run_ordered : (h : List Call) (s : State) → Ran r o h s → Ordered (one_memory o.memory h) s
-  run_ordered _ s (opens agree) = subst (Ordered (one_memory o.memory [])) (sym (same_state_as agree)) opening_ordered
+  run_ordered _ s (opens agree) = grind (arith, nat_tests)
   run_ordered _ t (goes_on {h} {s} c before taken) = call_ordered r (one_memory o.memory h) s (run_sound r law o h s before) (run_ordered h s before) law c t taken (decides_once r law o (c ∷ h) t (goes_on {h = h} {s = s} c before taken))
 
 pub decides_in_issue_order : EveryRunDecidesInIssueOrder

@@ -1,5 +1,5 @@
 -- Requests of one core on one word are decided in the order of their issue.
-use Rattle.std.proofs.Common.{◌≡◌, ℕ, ◌<◌, ◌≤◌, List, [], ◌∷◌, Some, None, Option, sym, ap, ◌∙◌, subst, ⊎_elim, arith}
+use Rattle.std.proofs.Common.{◌≡◌, ℕ, ◌<◌, ◌≤◌, List, [], ◌∷◌, Some, None, Option, sym, subst, ⊎_elim, arith}
 use Rattle.std.proofs.lemmas.Bool.Decides.{nat_tests}
 use Rattle.std.proofs.lemmas.Bool.{cases_eq}
 use Rattle.std.proofs.lemmas.List.Sums.{sum_by-cons}
@@ -82,11 +82,7 @@ decide_ordered m s k x noted below newest oldest was =
     before j ne often = grind (arith, nat_tests, sum_by-cons (one j) k m.decided)
 
     later : (c : ℕ) (e : Entry) → Earlier m c e.number e.word × (x.core ≡ c → x.word ≡ e.word → k ≤ e.number) → Earlier (serve_noted m k (Some x)) c e.number e.word
-    later c e h j often at =
-        ⊎_elim
-        (λ same. let place : At c e.word (Some x) = subst (At c e.word) (ap m.noted same ∙ noted) at in omega (arith, same, h.1 place.0 place.1))
-        (λ ne. h.0 j (before j ne often) at)
-        (cases_eq j k)
+    later c e h j often at = grind (arith, nat_tests)
 
 -- the tenure's request is decided
 pub tenure_decided : (m : TaggedMemory) (s : State) (t : Tenure) → WaitsIn s t → Noted m s.next t.core t.entry → OldestOnWord s t → IsDecidedOnce (decide m t.entry.number) → Ordered m s → Ordered (decide m t.entry.number) s

@@ -5,7 +5,7 @@ use Rattle.std.proofs.lemmas.Bool.Decides.{nat_tests}
 use Rattle.std.proofs.lemmas.Option.{none-some, same_Some}
 use Rattle.tagged.specs.declared.answers.Notice.{Notice}
 use Rattle.promises.specs.Board.{Entry}
-use Rattle.promises.specs.Lists.{any_entry, on_word, numbered, without, put_to_sleep, wake, oldest_ready, wakes}
+use Rattle.promises.specs.Lists.{any_entry, on_word, numbered, without, put_to_sleep, wake, oldest_ready}
 use Rattle.promises.specs.Promises.{EveryEntry}
 use Rattle.promises.proofs.Entries.{every_weaker, every_map, every_append, every_without, every_sleep}
 
@@ -27,11 +27,11 @@ pub within_same : (es : List Entry) → Within es es
 within_same es = record { each = λ P h. h; rising = λ h. h }
 
 pub within_then : {es fs gs : List Entry} → Within es fs → Within fs gs → Within es gs
-within_then x y = record { each = λ P h. y.each P (x.each P h); rising = λ h. y.rising (x.rising h) }
+within_then x y = grind (arith, nat_tests)
 
 module _ (n : Option Notice) (w : ℕ) where
   wake_each : (P : ℕ → ℕ → Type 0) (e : Entry) → P e.number e.word → P (wake n w e).number (wake n w e).word
-  wake_each P e h = cond_both (wakes n w e) _ _ (λ (y : Entry). P y.number y.word) (λ t. h) (λ f. h)
+  wake_each P e h = grind (arith, nat_tests)
 
   each_wake : (P : ℕ → ℕ → Type 0) (es : List Entry) → Each P es → Each P (map (wake n w) es)
   each_wake P es h = every_map (λ e. P e.number e.word) (λ e. P e.number e.word) (wake n w) (wake_each P) es h

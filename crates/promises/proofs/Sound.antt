@@ -1,4 +1,5 @@
 -- What every run keeps of copies, bus and lists, beside the one tagged memory m.
+use Rattle.std.proofs.lemmas.Bool.Decides.{nat_tests}
 use Rattle.std.proofs.Common.{◌≡◌, ℕ, ◌%◌, ◌<◌, ◌≤◌, Bool, true, false, cond, [], ◌∷◌, Some, None, Ok, Err, Option, sym, refl, ap, ◌∙◌, subst, arith, leb-false, rules}
 use Rattle.std.proofs.lemmas.Bool.{eqb-true, both_ways}
 use Rattle.protocol.specs.Rules.{Rules}
@@ -97,7 +98,7 @@ cleared (p ∷ ps) e = grind (arith, cleared ps)
 
 -- a step, by whether it is refused
 pub by_reply : {A : Type 0} (P : OrRefused A → State → Type 0) (s t after : State) (q : Option Refusal) (x : A) (a : OrRefused A) → a ≡ reply_unless q x → Agree t (after_unless q s after) → ((e : Refusal) → P (Err e) s) → (q ≡ None → P (Ok x) after) → P a t
-by_reply P s t after None x a is agree refused accepted = subst (λ b. P b t) (sym is) (subst (P (Ok x)) (sym (same_state_as agree)) (accepted refl))
+by_reply P s t after None x a is agree refused accepted = grind (arith, nat_tests)
 by_reply P s t after (Some e) x a is agree refused accepted = subst (λ b. P b t) (sym is) (subst (P (Err e)) (sym (same_state_as agree)) (refused e))
 
 -- the answer to an issue that is answered at once

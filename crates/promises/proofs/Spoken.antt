@@ -1,31 +1,27 @@
 -- Every answer, look and save of a run is that of one tagged memory.
-use Rattle.std.proofs.Common.{◌≡◌, List, [], sym, refl, ap, ◌∙◌, subst, arith}
+use Rattle.std.proofs.lemmas.Bool.Decides.{nat_tests}
+use Rattle.std.proofs.Common.{◌≡◌, List, [], sym, ap, ◌∙◌, subst, arith}
 use Rattle.protocol.specs.Rules.{Rules, Lawful}
-use Rattle.promises.specs.Board.{Tenure, Found, Setup, State}
-use Rattle.promises.specs.Calls.{to_snoop, Call, issue, grant, give_back, snoop, settle, withdraw, evict, drain, look, save, tally}
-use Rattle.promises.specs.Refusing.{first_reason, slip_reasons, grant_reasons, withdraw_reasons, evict_reasons, drain_reasons}
-use Rattle.promises.specs.Steps.{Step, settle_state}
+use Rattle.promises.specs.Board.{Setup, State}
+use Rattle.promises.specs.Calls.{Call, issue, grant, give_back, snoop, settle, withdraw, evict, drain, look, save, tally}
+use Rattle.promises.specs.Steps.{Step}
 use Rattle.promises.specs.Runs.{Opening, opened, Ran, opens, goes_on}
 use Rattle.promises.specs.OneMemory.{one_memory}
 use Rattle.promises.specs.Promises.{AllSpeakTrue, EveryRunSpeaksTrue}
 use Rattle.promises.proofs.Coherent.{run_sound}
-use Rattle.promises.proofs.Sound.{by_reply, by_issue, by_snoop, by_settle}
 use Rattle.promises.proofs.Speaking.{Owed, owed_after_call, call_speaks}
 
 -- no call changes what a board was opened with
 module _ (r : Rules) (s : State) where
-  settled_setup : (t : Tenure) (f : Found) → (settle_state r s t f).setup ≡ s.setup
-  settled_setup t f = grind arith
-
   step_setup : (t : State) (c : Call) → Step r s c t → t.setup ≡ s.setup
-  step_setup t (issue c k w v a) step = by_issue (λ b u. u.setup ≡ s.setup) r s t c k w v a step (λ e. refl) (λ y. refl) (λ core. refl)
-  step_setup t (grant c a) step = by_reply (λ b u. u.setup ≡ s.setup) s t _ (first_reason (grant_reasons s c)) _ a step.0 step.1 (λ e. refl) (λ none. refl)
-  step_setup t (give_back slip a) step = by_reply (λ b u. u.setup ≡ s.setup) s t _ (first_reason (slip_reasons s slip to_snoop)) _ a step.0 step.1 (λ e. refl) (λ none. refl)
-  step_setup t (snoop slip a) step = by_snoop (λ b u. u.setup ≡ s.setup) r s t slip a step (λ e. refl) (λ x bus number. refl)
-  step_setup t (settle slip a) step = by_settle (λ b u. u.setup ≡ s.setup) r s t slip a step (λ e. refl) (λ x f bus. settled_setup x f)
-  step_setup t (withdraw k a) step = by_reply (λ b u. u.setup ≡ s.setup) s t _ (first_reason (withdraw_reasons s k)) _ a step.0 step.1 (λ e. refl) (λ none. refl)
-  step_setup t (evict c w a) step = by_reply (λ b u. u.setup ≡ s.setup) s t _ (first_reason (evict_reasons s r c w)) _ a step.0 step.1 (λ e. refl) (λ none. refl)
-  step_setup t (drain a) step = by_reply (λ b u. u.setup ≡ s.setup) s t _ (first_reason (drain_reasons s)) _ a step.0 step.1 (λ e. refl) (λ none. refl)
+  step_setup t (issue c k w v a) step = grind (arith, nat_tests)
+  step_setup t (grant c a) step = grind (arith, nat_tests)
+  step_setup t (give_back slip a) step = grind (arith, nat_tests)
+  step_setup t (snoop slip a) step = grind (arith, nat_tests)
+  step_setup t (settle slip a) step = grind (arith, nat_tests)
+  step_setup t (withdraw k a) step = grind (arith, nat_tests)
+  step_setup t (evict c w a) step = grind (arith, nat_tests)
+  step_setup t (drain a) step = grind (arith, nat_tests)
   step_setup t (look w a) step = step.1.setup
   step_setup t (save before after a) step = step.2.setup
   step_setup t (tally a) step = step.1.setup

@@ -1,4 +1,5 @@
 -- What a snooped tenure has found stays true, and a settle keeps copies and memory true.
+use Rattle.std.proofs.lemmas.Bool.Decides.{nat_tests}
 use Rattle.std.proofs.Common.{◌≡◌, ℕ, Bool, true, false, not, eqb, sym, refl, ap, ◌∙◌, arith}
 use Rattle.std.proofs.lemmas.Bool.{ne_eqb, not_from_false, and_parts, and_from, and_left, both_ways, cond-false, cond_both}
 use Rattle.protocol.specs.Rules.{Rules, Lawful}
@@ -71,33 +72,10 @@ pub record Like (r : Rules) (s t : State) (m : ℕ) : Type 0 where
 
 -- what was found stays true where the line's copies, the line and the word's state stay
 module _ (r : Rules) (T T' : ℕ → Word) (s s' : State) (t : Tenure) (like : Like r s s' (line_of t.entry.word)) (line : line_by_words T' (line_of t.entry.word) ≡ line_by_words T (line_of t.entry.word)) (word : T' t.entry.word ≡ T t.entry.word) where
-  owned : (d : ℕ) → owns r s' d (line_of t.entry.word) ≡ true → owns r s d (line_of t.entry.word) ≡ true
-  owned d e = grind (arith, like.kept d, like.code d)
-
-  still_met : Met T t → Met T' t
-  still_met m = ap (λ (x : Word). met t.entry.operation x.state) word ∙ m
-
   pub found_like : (f : Found) → FoundTrue r T s t f → FoundTrue r T' s' t f
-  found_like own_copy h = (record { kept = like.kept t.core ∙ h.0.kept; sole = λ c. ap r.sole (like.code t.core h.0.kept) ∙ h.0.sole c }, still_met h.1)
-  found_like (read_in shared f) h = (
-    record {
-      line = h.0.line ∙ sym line;
-      own = λ k. h.0.own (sym (like.kept t.core) ∙ k);
-      none_sole = λ d o. h.0.none_sole d (owned d o);
-      unshared = λ e d k. h.0.unshared e d (sym (like.kept d) ∙ k);
-      read = h.0.read;
-    },
-    still_met h.1,
-  )
-  found_like (claimed f) h = (
-    record {
-      line = h.0.line ∙ sym line;
-      others = λ d ne k. h.0.others d ne (sym (like.kept d) ∙ k);
-      own = λ o. h.0.own (owned t.core o);
-      claim = h.0.claim;
-    },
-    still_met h.1,
-  )
+  found_like own_copy h = grind (arith, nat_tests)
+  found_like (read_in shared f) h = grind (arith, nat_tests)
+  found_like (claimed f) h = grind (arith, nat_tests)
   found_like (unmet o found) h = h
 
 -- SNOOP finds what is true
