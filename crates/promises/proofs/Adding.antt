@@ -13,10 +13,10 @@ use Rattle.tagged.specs.declared.operations.Operation.{Operation}
 use Rattle.tagged.specs.declared.words.Word.{Word}
 use Rattle.tagged.specs.declared.words.WordState.TheVariants.{Empty}
 use Rattle.promises.specs.Board.{Entry, Tenure, Found, own_copy, read_in, claimed, unmet, State}
-use Rattle.promises.specs.Calls.{to_snoop, Slip, SnoopReport, Tally, OrRefused, Call, issue, grant, give_back, snoop, settle, withdraw, evict, drain, look, save, tally}
+use Rattle.promises.specs.Calls.{Slip, SnoopReport, Tally, OrRefused, Call, issue, grant, give_back, snoop, settle, withdraw, evict, drain, look, save, tally}
 use Rattle.promises.specs.Copies.{over_cores, any_core}
 use Rattle.promises.specs.Lists.{any_entry, numbered, without, put_to_sleep, wake}
-use Rattle.promises.specs.Refusing.{first_reason, grant_reasons, slip_reasons, withdraw_reasons, evict_reasons, drain_reasons}
+use Rattle.promises.specs.Refusing.{first_reason, withdraw_reasons}
 use Rattle.promises.specs.Steps.{Step, updated, answer_undone, in_reach, own_met, snoop_met, waits, snoop_state, settle_state, settle_answer, answers_now, issue_served, issue_now, issue_later, holder, withdrawn_state, count_outcome, count_accepted}
 use Rattle.promises.specs.OneMemory.{TaggedMemory, is_answer}
 use Rattle.promises.specs.Promises.{number_if, accepted_by, answered_by, withdrawn_by}
@@ -53,16 +53,16 @@ module _ (h : List Call) (s : State) (was : Accounts h s) where
   unchanged c t new ans gone next counts lists = accounts_more c h s t [] Waits 0 [] was (nothing_added c s t new ans gone next counts (λ F a m. over_same _ _ (λ d. ap F (lists d))))
 
   pub grant_adds : (r : Rules) (c : ℕ) (a : OrRefused Slip) (t : State) → Step r s (grant c a) t → Accounts (grant c a ∷ h) t
-  grant_adds r c a t step = by_reply (λ b u. Accounts (grant c b ∷ h) u) s t _ (first_reason (grant_reasons s c)) _ a step.0 step.1 (λ e. unchanged _ s refl (λ p. refl) refl refl refl (λ d. refl)) (λ none. unchanged _ _ refl (λ p. refl) refl refl refl (λ d. refl))
+  grant_adds r c a t step = unchanged _ t refl (λ p. refl) refl (grind arith) (grind arith) (λ d. grind arith)
 
   pub give_back_adds : (r : Rules) (slip : Slip) (a : OrRefused (Unit {0})) (t : State) → Step r s (give_back slip a) t → Accounts (give_back slip a ∷ h) t
-  give_back_adds r slip a t step = by_reply (λ b u. Accounts (give_back slip b ∷ h) u) s t _ (first_reason (slip_reasons s slip to_snoop)) _ a step.0 step.1 (λ e. unchanged _ s refl (λ p. refl) refl refl refl (λ d. refl)) (λ none. unchanged _ _ refl (λ p. refl) refl refl refl (λ d. refl))
+  give_back_adds r slip a t step = unchanged _ t refl (λ p. refl) refl (grind arith) (grind arith) (λ d. grind arith)
 
   pub evict_adds : (r : Rules) (c w : ℕ) (a : OrRefused (Unit {0})) (t : State) → Step r s (evict c w a) t → Accounts (evict c w a ∷ h) t
-  evict_adds r c w a t step = by_reply (λ b u. Accounts (evict c w b ∷ h) u) s t _ (first_reason (evict_reasons s r c w)) _ a step.0 step.1 (λ e. unchanged _ s refl (λ p. refl) refl refl refl (λ d. refl)) (λ none. unchanged _ _ refl (λ p. refl) refl refl refl (λ d. refl))
+  evict_adds r c w a t step = unchanged _ t refl (λ p. refl) refl (grind arith) (grind arith) (λ d. grind arith)
 
   pub drain_adds : (r : Rules) (a : OrRefused (Unit {0})) (t : State) → Step r s (drain a) t → Accounts (drain a ∷ h) t
-  drain_adds r a t step = by_reply (λ b u. Accounts (drain b ∷ h) u) s t _ (first_reason (drain_reasons s)) _ a step.0 step.1 (λ e. unchanged _ s refl (λ p. refl) refl refl refl (λ d. refl)) (λ none. unchanged _ _ refl (λ p. refl) refl refl refl (λ d. refl))
+  drain_adds r a t step = unchanged _ t refl (λ p. refl) refl (grind arith) (grind arith) (λ d. grind arith)
 
   pub look_adds : (r : Rules) (w : ℕ) (a : OrRefused Word) (t : State) → Step r s (look w a) t → Accounts (look w a ∷ h) t
   look_adds r w a t step = unchanged _ t refl (λ p. refl) refl step.1.next step.1.counts step.1.waiting

@@ -1,6 +1,6 @@
 -- No request is decided twice: what is decided was answered, or is owed to the request that has the bus.
 use Rattle.std.proofs.lemmas.Bool.Decides.{nat_tests}
-use Rattle.std.proofs.Common.{◌≡◌, ℕ, ◌+◌, ◌≤◌, Bool, true, false, cond, ◌&&◌, eqb, List, [], ◌∷◌, ◌++◌, Ok, Option, sym, refl, ap, ◌∙◌, subst, ⊎_elim, arith}
+use Rattle.std.proofs.Common.{◌≡◌, ℕ, ◌+◌, ◌≤◌, Bool, true, false, cond, ◌&&◌, eqb, List, [], ◌∷◌, ◌++◌, Ok, Option, sym, refl, ap, ◌∙◌, subst, ⊎_elim, arith, rules}
 use Rattle.std.proofs.lemmas.Bool.{cases_Bool, not-false, cond-false}
 use Rattle.std.proofs.lemmas.List.Sums.{sum_by-cons, sum_by-append}
 use Rattle.protocol.specs.Rules.{Rules, Lawful}
@@ -11,7 +11,7 @@ use Rattle.tagged.specs.declared.words.WordState.TheVariants.{Empty}
 use Rattle.promises.specs.Board.{Entry, Tenure, Found, own_copy, read_in, claimed, unmet, Bus, free, granted, snooped, State}
 use Rattle.promises.specs.Calls.{to_snoop, Slip, Call, issue, grant, give_back, snoop, settle, withdraw, evict, drain, look, save, tally}
 use Rattle.promises.specs.Lists.{without, oldest_ready}
-use Rattle.promises.specs.Refusing.{first_reason, is_free, bus_at, grant_reasons, slip_reasons, withdraw_reasons}
+use Rattle.promises.specs.Refusing.{first_reason, is_free, bus_at, grant_reasons, slip_reasons}
 use Rattle.promises.specs.Steps.{Step, grant_bus, snoop_met, snoop_word, snoop_kind, snoop_found, settle_state, settle_answer, answer_undone}
 use Rattle.promises.specs.Runs.{Opening, Ran, opens, goes_on}
 use Rattle.promises.specs.OneMemory.{TaggedMemory, note, decide, noted_gives_up, is_done, is_answer, feed, one_memory}
@@ -108,7 +108,7 @@ module _ (r : Rules) (h : List Call) (m : TaggedMemory) (s : State) (sound : Sou
       (λ none k. omega (arith, was k, granted_owes k slip.number s.bus (at_bus s slip to_snoop none)))
   call_balanced (snoop slip a) t step = by_snoop (λ b u. Balanced (snoop slip b ∷ h) (feed m (snoop slip b)) u.bus) r s t slip a step (λ e. was) (snooped_balanced slip)
   call_balanced (settle slip a) t step = by_settle (λ b u. Balanced (settle slip b ∷ h) (feed m (settle slip b)) u.bus) r s t slip a step (λ e. was) (settled slip)
-  call_balanced (withdraw k a) t step = by_reply (λ b u. Balanced h m u.bus) s t _ (first_reason (withdraw_reasons s k)) _ a step.0 step.1 (λ e. was) (λ none. was)
+  call_balanced (withdraw k a) t step = search rules
   call_balanced (evict c w a) t step = grind (arith, nat_tests)
   call_balanced (drain a) t step = grind (arith, nat_tests)
   call_balanced (look w a) t step = subst (Balanced h m) (sym step.1.bus) was

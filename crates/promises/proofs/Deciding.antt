@@ -1,11 +1,9 @@
 -- A decided request was issued before, and the one memory gave it something.
-use Rattle.std.proofs.Common.{◌≡◌, ℕ, Bool, true, cond, List, [], ◌∷◌, Ok, Err, Option, arith}
+use Rattle.std.proofs.Common.{◌≡◌, ℕ, Bool, true, cond, List, [], ◌∷◌, Ok, Err, Option, arith, rules}
 use Rattle.std.proofs.lemmas.Bool.Decides.{nat_tests}
-use Rattle.std.proofs.lemmas.Bool.{cond_both}
-use Rattle.tagged.specs.Operations.{operation_coded}
 use Rattle.promises.specs.Calls.{Call, issue, grant, give_back, snoop, settle, withdraw, evict, drain, look, save, tally}
 use Rattle.promises.specs.Runs.{Opening}
-use Rattle.promises.specs.OneMemory.{Note, TaggedMemory, note, serve_noted, decide, is_answer, feed, one_memory}
+use Rattle.promises.specs.OneMemory.{Note, TaggedMemory, serve_noted, feed, one_memory}
 use Rattle.promises.specs.Promises.{DecidedAfterIssue, EveryRunDecidesAfterIssue, SpeaksTrue, AllSpeakTrue}
 use Rattle.promises.proofs.Spoken.{run_speaks}
 
@@ -17,11 +15,7 @@ when_answered b e p = rw e at p
 
 module _ (o : Opening) (m : TaggedMemory) (was : DecidedAfterIssue m) where
   after_call : (c : Call) → SpeaksTrue o (feed m c) c → DecidedAfterIssue (feed m c)
-  after_call (issue c k w v (Ok a)) speaks =
-      let noted = note m a.number (record { core = c; operation = operation_coded k; word = w; value = v }) in
-      cond_both (is_answer a.outcome) (decide noted a.number) noted DecidedAfterIssue
-      (λ e j often. grind (arith, nat_tests))
-      (λ e. was)
+  after_call (issue c k w v (Ok a)) speaks = search rules
   after_call (issue c k w v (Err e)) speaks = was
   after_call (grant c a) speaks = was
   after_call (give_back slip a) speaks = was

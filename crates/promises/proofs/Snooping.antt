@@ -1,5 +1,5 @@
 -- A snoop keeps copies and memory true, and what it finds is true.
-use Rattle.std.proofs.Common.{◌≡◌, ℕ, ◌%◌, ◌<◌, Bool, true, false, not, ◌&&◌, ◌⊎◌, sym, refl, ap, ◌∙◌, ⊎_elim, arith}
+use Rattle.std.proofs.Common.{◌≡◌, ℕ, ◌%◌, ◌<◌, Bool, true, false, not, ◌&&◌, ◌⊎◌, sym, refl, ap, ◌∙◌, ⊎_elim, arith, rules}
 use Rattle.std.proofs.lemmas.Bool.Decides.{nat_tests}
 use Rattle.std.proofs.lemmas.Bool.{cond_both, false_from_ne_true, cases_eq, cases_Bool, eq-eqb, not-true, and_parts, and_from, and_left, and_right, both_ways, cond-true, cond-false}
 use Rattle.protocol.specs.Rules.{Rules, Lawful}
@@ -68,10 +68,7 @@ module _ (r : Rules) (law : Lawful r) (T : ℕ → Word) (s : State) (t : Tenure
   heard_not_kept d f c ne k e = grind (arith, heard_or_not d n, heard_claim d n)
 
   snoop_codes : (d i : ℕ) → (after.frame d i).code < 256
-  snoop_codes d i =
-      cond_both _ (moved r s t (s.frame d i)) (s.frame d i) (λ (f : Frame). f.code < 256)
-      (λ _. cond_both (claims t.entry.operation) _ _ (λ k. k < 256) (λ _. law.claim_fits _ (was.codes d i)) (λ _. law.read_fits _ (was.codes d i)))
-      (λ _. was.codes d i)
+  snoop_codes d i = search rules
 
   snoop_placed : (d i : ℕ) → r.kept (after.frame d i).code ≡ true → (after.frame d i).line % 16 ≡ i
   snoop_placed d i =

@@ -1,7 +1,7 @@
 -- What every run keeps of copies, bus and lists, beside the one tagged memory m.
 use Rattle.std.proofs.lemmas.Bool.Decides.{nat_tests}
 use Rattle.std.proofs.Common.{◌≡◌, ℕ, ◌%◌, ◌<◌, ◌≤◌, Bool, true, false, cond, [], ◌∷◌, Some, None, Ok, Err, Option, sym, refl, ap, ◌∙◌, subst, arith, leb-false, rules}
-use Rattle.std.proofs.lemmas.Bool.{eqb-true, both_ways}
+use Rattle.std.proofs.lemmas.Bool.{both_ways}
 use Rattle.protocol.specs.Rules.{Rules}
 use Rattle.tagged.specs.declared.refusals.Refusal.{Refusal}
 use Rattle.tagged.specs.declared.words.Word.{Word}
@@ -69,10 +69,7 @@ same_memory r m n s word noted was = record {
 pub tenure_noted : (r : Rules) (m : TaggedMemory) (s : State) (t : Tenure) → Sound r m s → WaitsIn s t → Noted m s.next t.core t.entry
 tenure_noted r m s t was here =
     every_present (Noted m s.next t.core) t.entry (s.waiting t.core)
-    (λ e same h. record {
-      note = ap m.noted same.number ∙ h.note ∙ ap Some (λ i. record { core = t.core; operation = sym same.operation i; word = sym same.word i; value = sym same.value i });
-      below = omega (arith, same.number, h.below);
-    })
+    (λ e same h. grind (arith, same, h))
     (was.notes t.core) here.present
 
 -- the same frames and memory, and no line more that is not being claimed
@@ -98,7 +95,7 @@ cleared (p ∷ ps) e = grind (arith, cleared ps)
 
 -- a step, by whether it is refused
 pub by_reply : {A : Type 0} (P : OrRefused A → State → Type 0) (s t after : State) (q : Option Refusal) (x : A) (a : OrRefused A) → a ≡ reply_unless q x → Agree t (after_unless q s after) → ((e : Refusal) → P (Err e) s) → (q ≡ None → P (Ok x) after) → P a t
-by_reply P s t after None x a is agree refused accepted = grind (arith, nat_tests)
+by_reply P s t after None x a is agree refused accepted = subst (λ b. P b t) (sym is) (subst (P (Ok x)) (sym (same_state_as agree)) (accepted refl))
 by_reply P s t after (Some e) x a is agree refused accepted = subst (λ b. P b t) (sym is) (subst (P (Err e)) (sym (same_state_as agree)) (refused e))
 
 -- the answer to an issue that is answered at once
@@ -120,9 +117,10 @@ pub at_bus : (s : State) (slip : Slip) (stage : Stage) → first_reason (slip_re
 at_bus s slip stage none = grind arith
 
 -- any other slip is refused, and changes nothing
-unserved : {A : Type 0} (P : OrRefused A → State → Type 0) (s t : State) (slip : Slip) (stage : Stage) (x : A) (a : OrRefused A) → bus_at s.bus stage slip.number ≡ false → a ≡ reply_unless (first_reason (slip_reasons s slip stage)) x → Agree t s → ((e : Refusal) → P (Err e) s) → P a t
-unserved P s t slip stage x a silent is agree refused =
-    by_reply P s t s _ x a is (subst (Agree t) (sym (same_unless (first_reason (slip_reasons s slip stage)))) agree) refused (λ none. absurd (both_ways _ silent (at_bus s slip stage none)))
+unserved : {A : Type 0} (P : OrRefused A → State → Type 0) (s t : State) (slip : Slip) (stage : Stage) (b : Bus) (x : A) (a : OrRefused A) → s.bus ≡ b → bus_at b stage slip.number ≡ false → a ≡ reply_unless (first_reason (slip_reasons s slip stage)) x → Agree t s → ((e : Refusal) → P (Err e) s) → P a t
+unserved P s t slip stage b x a bus silent is agree refused =
+    by_reply P s t s _ x a is (subst (Agree t) (sym (same_unless (first_reason (slip_reasons s slip stage)))) agree) refused
+    (λ none. absurd (both_ways _ silent (ap (λ y. bus_at y stage slip.number) (sym bus) ∙ at_bus s slip stage none)))
   where
     same_unless : (q : Option Refusal) → after_unless q s s ≡ s
     same_unless None = refl
@@ -132,24 +130,17 @@ unserved P s t slip stage x a silent is agree refused =
 pub by_snoop : (P : OrRefused (Slip × SnoopReport) → State → Type 0) (r : Rules) (s t : State) (slip : Slip) (a : OrRefused (Slip × SnoopReport)) → Step r s (snoop slip a) t → ((e : Refusal) → P (Err e) s) → ((x : Tenure) → s.bus ≡ granted x → slip.number ≡ x.entry.number → P (Ok (record { board = s.setup.board; number = x.entry.number; stage = to_settle }, snoop_report r s x)) (snoop_state r s x)) → P a t
 by_snoop P r s t slip a step refused served = by s.bus refl step.0 step.1
   where
-    silent : (b : Bus) → s.bus ≡ b → bus_at b to_snoop slip.number ≡ false → bus_at s.bus to_snoop slip.number ≡ false
-    silent b bus e = ap (λ y. bus_at y to_snoop slip.number) bus ∙ e
-
     by : (b : Bus) → s.bus ≡ b → a ≡ snoop_on r s slip b → Agree t (snoop_to r s slip b) → P a t
-    by free bus is agree = unserved P s t slip to_snoop _ a (silent free bus refl) is (subst (Agree t) refl agree) refused
+    by free bus is agree = unserved P s t slip to_snoop free _ a bus refl is agree refused
     by (granted x) bus is agree =
-        by_reply P s t (snoop_state r s x) _ _ a is agree refused
-        (λ none. served x bus (sym (eqb-true _ _ (sym (ap (λ y. bus_at y to_snoop slip.number) bus) ∙ at_bus s slip to_snoop none))))
-    by (snooped x f) bus is agree = unserved P s t slip to_snoop _ a (silent (snooped x f) bus refl) is agree refused
+        by_reply P s t (snoop_state r s x) _ _ a is agree refused (λ none. served x bus (grind (arith, nat_tests, at_bus s slip to_snoop none, bus)))
+    by (snooped x f) bus is agree = unserved P s t slip to_snoop (snooped x f) _ a bus refl is agree refused
 
 -- a settle, by whether it is refused
 pub by_settle : (P : OrRefused Answer → State → Type 0) (r : Rules) (s t : State) (slip : Slip) (a : OrRefused Answer) → Step r s (settle slip a) t → ((e : Refusal) → P (Err e) s) → ((x : Tenure) (f : Found) → s.bus ≡ snooped x f → P (Ok (settle_answer r s x f)) (settle_state r s x f)) → P a t
 by_settle P r s t slip a step refused served = by s.bus refl step.0 step.1
   where
-    silent : (b : Bus) → s.bus ≡ b → bus_at b to_settle slip.number ≡ false → bus_at s.bus to_settle slip.number ≡ false
-    silent b bus e = ap (λ y. bus_at y to_settle slip.number) bus ∙ e
-
     by : (b : Bus) → s.bus ≡ b → a ≡ settle_on r s slip b → Agree t (settle_to r s slip b) → P a t
-    by free bus is agree = unserved P s t slip to_settle _ a (silent free bus refl) is agree refused
-    by (granted x) bus is agree = unserved P s t slip to_settle _ a (silent (granted x) bus refl) is agree refused
+    by free bus is agree = unserved P s t slip to_settle free _ a bus refl is agree refused
+    by (granted x) bus is agree = unserved P s t slip to_settle (granted x) _ a bus refl is agree refused
     by (snooped x f) bus is agree = by_reply P s t (settle_state r s x f) _ _ a is agree refused (λ none. served x f bus)

@@ -1,5 +1,5 @@
 -- Every answer, look and save speaks for the one tagged memory.
-use Rattle.std.proofs.Common.{◌≡◌, ℕ, ◌<◌, min, true, false, ◌&&◌, eqb, List, ◌++◌, length, drop, Some, None, Ok, Option, sym, refl, ap, ◌∙◌, subst, arith}
+use Rattle.std.proofs.Common.{◌≡◌, ℕ, ◌<◌, min, true, false, ◌&&◌, eqb, List, ◌++◌, length, drop, Some, None, Ok, Option, sym, refl, ap, ◌∙◌, subst, arith, rules}
 use Rattle.std.proofs.lemmas.Bool.Decides.{nat_tests}
 use Rattle.std.proofs.lemmas.Bool.{and_from, both_ways, cond-true, cond-false, cond_both}
 use Rattle.protocol.specs.Rules.{Rules, Lawful}
@@ -191,7 +191,7 @@ module _ (r : Rules) (law : Lawful r) (op : Opening) (m : TaggedMemory) (s : Sta
   owed_after_call (grant c a) t step = grind (arith, nat_tests)
   owed_after_call (give_back slip a) t step = grind (arith, nat_tests)
   owed_after_call (snoop slip a) t step = by_snoop (λ b u. Owed (feed m (snoop slip b)) u.bus) r s t slip a step (λ e. owed) (snoop_owed slip)
-  owed_after_call (settle slip a) t step = by_settle (λ b u. Owed (feed m (settle slip b)) u.bus) r s t slip a step (λ e. owed) (λ x f bus. after_settle _ x f)
+  owed_after_call (settle slip a) t step = search rules
   owed_after_call (withdraw k a) t step = by_reply (λ b u. Owed m u.bus) s t _ (first_reason (withdraw_reasons s k)) _ a step.0 step.1 (λ e. owed) (λ none. owed)
   owed_after_call (evict c w a) t step = grind (arith, nat_tests)
   owed_after_call (drain a) t step = grind (arith, nat_tests)
