@@ -44,6 +44,9 @@ module _ (r : Rules) (law : Lawful r) (m : TaggedMemory) (s : State) (was : Soun
     rest_asleep : (c : ℕ) → EveryEntry (SleepsRight m.word) (updated s.waiting t.core (without t.entry.number (s.waiting t.core)) c)
     rest_asleep c = updated_each (λ _. EveryEntry (SleepsRight m.word)) s.waiting t.core _ (every_without _ t.entry.number _) c (was.sleepers c)
 
+    done_noted : (n : Option Notice) (c : ℕ) → EveryEntry (Noted m s.next c) (map (wake n t.entry.word) (updated s.waiting t.core (without t.entry.number (s.waiting t.core)) c))
+    done_noted n c = every_map (Noted m s.next c) (Noted m s.next c) (wake n t.entry.word) (noted_wake m s.next c n t.entry.word) _ (rest_noted c)
+
     -- the notice wakes whom the done operation lets go on
     done_asleep : (before : Content) → before ≡ line_by_words m.word (line_of t.entry.word) → (c : ℕ) → EveryEntry (SleepsRight (served m.word t.entry.operation t.entry.word t.entry.value)) (map (wake (done_by t.entry.operation (word_in before t.entry.word) t.entry.value).notice t.entry.word) (updated s.waiting t.core (without t.entry.number (s.waiting t.core)) c))
     done_asleep before line c =
@@ -76,17 +79,17 @@ module _ (r : Rules) (law : Lawful r) (m : TaggedMemory) (s : State) (was : Soun
   settled t own_copy bus =
       let h = found t own_copy bus in
       done_sound t own_copy bus h.1 _ (settle_hit r law m.word s t was.copies (here t own_copy bus).core bus h.0) refl refl refl
-      (λ c. every_map (Noted m s.next c) (Noted m s.next c) _ (λ e n. noted_wake m s.next c _ _ e n) _ (rest_noted t own_copy bus c))
+      (done_noted t own_copy bus _)
       (done_asleep t own_copy bus _ (was.copies.true_copies t.core _ h.0.kept))
   settled t (read_in shared f) bus =
       let h = found t (read_in shared f) bus in
       done_sound t (read_in shared f) bus h.1 _ (settle_read r law m.word s t was.copies (here t (read_in shared f) bus).core f (r.read_fill shared) h.0.line (law.fill_fits shared) shared bus refl h.0) refl refl refl
-      (λ c. every_map (Noted m s.next c) (Noted m s.next c) _ (λ e n. noted_wake m s.next c _ _ e n) _ (rest_noted t (read_in shared f) bus c))
+      (done_noted t (read_in shared f) bus _)
       (done_asleep t (read_in shared f) bus _ h.0.line)
   settled t (claimed f) bus =
       let h = found t (claimed f) bus in
       done_sound t (claimed f) bus h.1 _ (settle_claim r law m.word s t was.copies (here t (claimed f) bus).core f r.own_claim h.0.line law.own_fits bus h.0) refl refl refl
-      (λ c. every_map (Noted m s.next c) (Noted m s.next c) _ (λ e n. noted_wake m s.next c _ _ e n) _ (rest_noted t (claimed f) bus c))
+      (done_noted t (claimed f) bus _)
       (done_asleep t (claimed f) bus _ h.0.line)
   settled t (unmet o x) bus =
       subst (λ n. Sound r n (settle_state r s t (unmet o x))) (sym (cond-false (is_done o) _ m (found t (unmet o x) bus)))
