@@ -1,5 +1,5 @@
 -- Issue.
-use Rattle.std.proofs.Common.{◌≡◌, ℕ, ◌+◌, ◌%◌, Bool, true, false, cond, not, ◌&&◌, ◌⊎◌, Some, sym, refl, ap, ◌∙◌, subst, ⊎_elim, arith, rules}
+use Rattle.std.proofs.Common.{◌≡◌, ℕ, ◌+◌, ◌%◌, Bool, true, false, cond, not, ◌&&◌, ◌⊎◌, Some, sym, refl, ap, ◌∙◌, subst, ⊎_elim, arith, rules, Ok}
 use Rattle.std.proofs.lemmas.Bool.Decides.{nat_tests}
 use Rattle.std.proofs.lemmas.Bool.{cases_eq, cases_Bool, and_parts, and_from, cond-true, cond-false, false_from_ne_true, cond_both}
 use Rattle.protocol.specs.Rules.{Rules, Lawful}
@@ -16,7 +16,7 @@ use Rattle.promises.specs.Board.{with_word_in}
 use Rattle.promises.specs.Calls.{OrRefused, issue}
 use Rattle.promises.specs.Copies.{copy, keeps, owns}
 use Rattle.promises.specs.Lists.{on_word, any_entry, wake}
-use Rattle.promises.specs.Steps.{Step, gives_up, own_word, own_met, in_reach, answers_now, issue_served, issue_now, issue_later}
+use Rattle.promises.specs.Steps.{Step, gives_up, own_word, own_met, in_reach, answers_now, issue_served, issue_now, issue_later, issue_refusal, issue_answer}
 use Rattle.promises.specs.OneMemory.{TaggedMemory, note, serve_noted, decide, is_answer, feed, line_by_words}
 use Rattle.promises.specs.Promises.{EveryEntry}
 use Rattle.promises.proofs.Contents.{updated_same, updated_other, updated_back, updated_each, line_word, changed, changed_other}
@@ -30,7 +30,7 @@ use Rattle.promises.proofs.OnBus.{bus_kept}
 use Rattle.promises.proofs.OnSettle.{noted_wake}
 use Rattle.promises.proofs.OnSnoop.{unmet_word}
 use Rattle.promises.proofs.Sleeping.{SleepsRight, woken_right, rule_tells}
-use Rattle.promises.proofs.Sound.{Noted, WaitsIn, TenureWaits, tenure_kept, Sound, same_frames, by_issue}
+use Rattle.promises.proofs.Sound.{Noted, WaitsIn, TenureWaits, tenure_kept, Sound, same_frames, by_reply, by_answer}
 
 -- an operation that is unmet, or no claim, leaves the word
 pub rule_stays : (o : Operation) (x : Word) (v : ℕ) → (met o x.state && claims o) ≡ false → (rule o x v).word ≡ x
@@ -208,8 +208,12 @@ module _ (r : Rules) (law : Lawful r) (m : TaggedMemory) (s : State) (was : Soun
         gives_up_answers : (k : Class) → gives_up k ≡ true → is_answer (unmet_outcome k) ≡ true
         gives_up_answers k e = grind arith
 
-pub issue_sound : (r : Rules) → Lawful r → (m : TaggedMemory) (s : State) → Sound r m s → (c k w v : ℕ) (a : OrRefused Answer) (t : State) → Step r s (issue c k w v a) t → Sound r (feed m (issue c k w v a)) t
-issue_sound r law m s was c k w v a t step =
-    by_issue (λ b u. Sound r (feed m (issue c k w v b)) u) r s t c k w v a step (λ e. was)
-    (λ y. subst (λ n. Sound r n (issue_now r s c (operation_coded k) w v)) (sym (cond-true _ _ _ (answers r law m s was c (operation_coded k) w v y))) (now_sound r law m s was c (operation_coded k) w v y))
-    (λ _. later_sound r law m s was c (operation_coded k) w v)
+module _ (r : Rules) (law : Lawful r) (m : TaggedMemory) (s : State) (was : Sound r m s) where
+  issued : (c k w v : ℕ) → Sound r (feed m (issue c k w v (Ok (issue_answer r s c (operation_coded k) w v)))) (cond (answers_now r s c (operation_coded k) w v) (issue_now r s c (operation_coded k) w v) (issue_later r s c (operation_coded k) w v))
+  issued c k w v =
+      by_answer r s c k w v (λ a t. Sound r (feed m (issue c k w v (Ok a))) t)
+      (λ y. subst (λ n. Sound r n (issue_now r s c (operation_coded k) w v)) (sym (cond-true _ _ _ (answers r law m s was c (operation_coded k) w v y))) (now_sound r law m s was c (operation_coded k) w v y))
+      (λ _. later_sound r law m s was c (operation_coded k) w v)
+
+  pub issue_sound : (c k w v : ℕ) (a : OrRefused Answer) (t : State) → Step r s (issue c k w v a) t → Sound r (feed m (issue c k w v a)) t
+  issue_sound c k w v a t step = by_reply (λ b u. Sound r (feed m (issue c k w v b)) u) s t _ (issue_refusal r s c k w v) _ a step.0 step.1 (λ e. was) (λ none. issued c k w v)

@@ -14,7 +14,7 @@ use Rattle.tagged.specs.Operations.{operation_coded}
 use Rattle.tagged.specs.declared.operations.Operation.{Operation}
 use Rattle.tagged.specs.declared.answers.Outcome.TheVariants.{Waits}
 use Rattle.tagged.specs.declared.words.WordState.TheVariants.{Empty}
-use Rattle.promises.specs.Steps.{Agree, Step, answer_undone, answer_served, answers_now, issue_served, issue_now, issue_later, issue_refusal, snoop_report, snoop_state, snoop_on, snoop_to, settle_answer, settle_state, settle_on, settle_to}
+use Rattle.promises.specs.Steps.{Agree, Step, answer_undone, answer_served, answers_now, issue_served, issue_now, issue_later, issue_refusal, snoop_report, snoop_state, snoop_on, snoop_to, settle_answer, settle_state, settle_on, settle_to, issue_answer}
 use Rattle.promises.specs.OneMemory.{Note, TaggedMemory}
 use Rattle.promises.specs.Promises.{EveryEntry}
 use Rattle.promises.proofs.Frames.{keeps_same, same_state_as}
@@ -102,15 +102,20 @@ by_reply P s t after (Some e) x a is agree refused accepted = subst (λ b. P b t
 abbrev pub answer_now : Rules → State → ℕ → Operation → ℕ → ℕ → Answer
 answer_now r s c o w v = answer_served s.next (issue_served r s c o w v) (woken s (issue_served r s c o w v).notice w)
 
+module _ (r : Rules) (s : State) (c k w v : ℕ) where
+  -- an issue that is not refused answers now, or its request waits
+  pub by_answer : (P : Answer → State → Type 0) → (answers_now r s c (operation_coded k) w v ≡ true → P (answer_now r s c (operation_coded k) w v) (issue_now r s c (operation_coded k) w v)) → (answers_now r s c (operation_coded k) w v ≡ false → P (answer_undone s.next Waits Empty) (issue_later r s c (operation_coded k) w v)) → P (issue_answer r s c (operation_coded k) w v) (cond (answers_now r s c (operation_coded k) w v) (issue_now r s c (operation_coded k) w v) (issue_later r s c (operation_coded k) w v))
+  by_answer P now later = by (answers_now r s c (operation_coded k) w v) _ _ _ _ now later
+    where
+      by : (b : Bool) (x y : Answer) (p q : State) → (b ≡ true → P x p) → (b ≡ false → P y q) → P (cond b x y) (cond b p q)
+      by true x y p q first second = first refl
+      by false x y p q first second = second refl
+
 -- an issue, by whether it is refused, answered at once or put into the list
 pub by_issue : (P : OrRefused Answer → State → Type 0) (r : Rules) (s t : State) (c k w v : ℕ) (a : OrRefused Answer) → Step r s (issue c k w v a) t → ((e : Refusal) → P (Err e) s) → (answers_now r s c (operation_coded k) w v ≡ true → P (Ok (answer_now r s c (operation_coded k) w v)) (issue_now r s c (operation_coded k) w v)) → (c < s.setup.cores → P (Ok (answer_undone s.next Waits Empty)) (issue_later r s c (operation_coded k) w v)) → P a t
 by_issue P r s t c k w v a step refused now later =
     by_reply P s t _ (issue_refusal r s c k w v) _ a step.0 step.1 refused
-    (λ none. by (answers_now r s c (operation_coded k) w v) _ _ _ _ now (λ z. later (leb-false s.setup.cores c (cleared (issue_reasons s _ c k w) none).0)))
-  where
-    by : (b : Bool) (x y : Answer) (p q : State) → (b ≡ true → P (Ok x) p) → (b ≡ false → P (Ok y) q) → P (Ok (cond b x y)) (cond b p q)
-    by true x y p q first second = first refl
-    by false x y p q first second = second refl
+    (λ none. by_answer r s c k w v (λ x u. P (Ok x) u) now (λ z. later (leb-false s.setup.cores c (cleared (issue_reasons s _ c k w) none).0)))
 
 -- an accepted slip is of the tenure that the bus has
 pub at_bus : (s : State) (slip : Slip) (stage : Stage) → first_reason (slip_reasons s slip stage) ≡ None → bus_at s.bus stage slip.number ≡ true
