@@ -29,7 +29,7 @@ pub struct WordExamples {
     pub stored: Served,
 }
 
-// State codes of copies of one line.
+// State codes of copies of one line: bytes, as a protocol gives them.
 #[derive(Clone, Copy, Debug, PartialEq, Eq)]
 pub struct ProtocolExamples {
     // MESI: core 0 reads the line first, core 1 reads it too, core 1 claims it.

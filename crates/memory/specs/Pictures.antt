@@ -1,5 +1,5 @@
 -- A memory as bytes: the picture of a list of lines, and the lines of a picture.
-use Rattle.std.specs.Prelude.{◌≡◌, ℕ, ◌+◌, ◌*◌, ◌/◌, ◌%◌, ◌^◌, ◌<◌, ◌≤◌, min, cond, ◌⊎◌, List, [], ◌∷◌, ◌++◌, map, length, get_or, ◌==◌, ◌≢◌, slice_index, slice_index_or}
+use Rattle.std.specs.Prelude.{◌≡◌, ℕ, ◌+◌, ◌*◌, ◌/◌, ◌%◌, ◌^◌, ◌<◌, ◌≤◌, min, cond, ◌⊎◌, List, [], ◌∷◌, ◌++◌, map, length, get_or, ◌==◌, ◌≢◌, slice_index, slice_index_or, slice_set}
 use Rattle.std.specs.List.{range_with_len, flat_map}
 use Rattle.memory.specs.declared.pictures.PictureFault.{PictureFault}
 use Rattle.memory.specs.declared.pictures.PictureFault.TheVariants.{Header, Length, State}
@@ -83,6 +83,10 @@ pub record PutsLine (n : ℕ) (before : List ℕ) (m : ℕ) (l : Line) (after : 
   pub fourth : number_at after (values_from m + 12) ≡ slice_index l.values 3
   pub states : get_or after (state_place n m) 0 ≡ state_byte l
   pub others : (k : ℕ) → (k < values_from m) ⊎ (values_from (m + 1) ≤ k) → (k ≢ state_place n m) → slice_index after k ≡ slice_index before k
+
+-- where the front was the picture of n lines, it is that of the lines with line m replaced, and what follows stays
+abbrev pub PutsInPicture : ℕ → List ℕ → ℕ → Line → List ℕ → Type 0
+PutsInPicture n before m l after = (ls : List Line) (more : List ℕ) → (length ls ≡ n) × (before ≡ picture ls ++ more) → after ≡ picture (slice_set ls m l) ++ more
 
 -- a picture of n lines can be written into these bytes
 pub record Room (n : ℕ) (bs : List ℕ) : Type 0 where

@@ -1,6 +1,6 @@
 // A memory kept as a picture in a lent buffer.
 ghost use Rattle.std.specs.Prelude.{◌≡◌, ℕ, ◌≤◌, List, ◌++◌, length, slice_set};
-ghost use Rattle.memory.specs.Pictures.{Sound, line_count, lines_at, picture};
+ghost use Rattle.memory.specs.Pictures.{Sound, line_count, lines_at, PutsInPicture};
 
 use crate::Memory;
 use crate::pictures::{Front, check_picture};
@@ -53,7 +53,7 @@ impl Memory for Picture<'_> {
     fn write(&mut self, n: u32, line: Line)
         ensures same_reference { self.new.front.bytes.ghost_name ≡ self.old.front.bytes.ghost_name }
         ensures lines { lines_at self.new.front.count self.new.front.bytes.now ≡ slice_set (lines_at self.old.front.count self.old.front.bytes.now) n line }
-        ensures picture { (ls : List Line) (more : List ℕ) → (length ls ≡ self.old.front.count) × (self.old.front.bytes.now ≡ picture ls ++ more) → self.new.front.bytes.now ≡ picture (slice_set ls n line) ++ more }
+        ensures picture { PutsInPicture self.old.front.count self.old.front.bytes.now n line self.new.front.bytes.now }
     {
         if n < self.front.count {
             self.front.replace(n, line);

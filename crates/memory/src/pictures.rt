@@ -1,7 +1,7 @@
 // A memory as bytes: the check of a picture, and reading and writing one line of it.
 ghost use Rattle.std.specs.Prelude.{◌≡◌, ℕ, ◌+◌, ◌<◌, ◌≤◌, List, ◌++◌, length, drop, replicate, IfOk, MatchResult, OnOk, slice_index, slice_set};
 ghost use Rattle.tagged.specs.Words.{blank};
-ghost use Rattle.memory.specs.Pictures.{number_at, state_byte, state_from, picture_length, values_from, state_place, line_count, line_at, lines_at, picture, PutsNumber, PutsLine, Room, Proper, Sound, Faulty, fault_refusal, fault_place};
+ghost use Rattle.memory.specs.Pictures.{number_at, state_byte, state_from, picture_length, values_from, state_place, line_count, line_at, lines_at, picture, PutsNumber, PutsLine, PutsInPicture, Room, Proper, Sound, Faulty, fault_refusal, fault_place};
 
 use std::array;
 use tagged::refusals::Refusal;
@@ -46,6 +46,7 @@ pub fn check_picture(bytes: &[u8]) -> Result<u32, PictureFault>
     ensures cases { MatchResult result (λ n. Sound bytes.now × (n ≡ line_count bytes.now)) (Faulty bytes.now) }
     ensures same_bytes { IfOk result (λ n. picture (lines_at n bytes.now) ≡ bytes.now) }
 {
+    // Two tests with one refusal: as one, over the first four bytes as an array, three goals stay open.
     if bytes.len() < 4 {
         return Err(PictureFault::Header);
     }
@@ -94,7 +95,7 @@ fn number_at(bytes: &[u8], at: usize) -> u32
     u32::from_le_bytes(*bytes[at..].first_chunk().unwrap())
 }
 
-// That the bytes are below 256 is said for a slice in a struct, of which a proof does not know its type's range.
+// The clause `bytes` is for `Front`: of a slice in a struct a proof does not know that its elements are below 256.
 fn put_number(bytes: &mut [u8], at: usize, value: u32)
     requires { at + 4 ≤ length bytes.old }
     ensures puts { PutsNumber bytes.old at value bytes.new }
@@ -103,7 +104,7 @@ fn put_number(bytes: &mut [u8], at: usize, value: u32)
     bytes[at..at + 4].copy_from_slice(&value.to_le_bytes());
 }
 
-// The state that a bit of a picture stands for. A function, since each bit stands for one and a `TryFrom` could fail.
+// The state that a bit, 0 or 1, stands for. No `TryFrom<u8>`, since nothing is refused.
 fn state_from(bit: u8) -> WordState
     ensures { result ≡ state_from bit }
 {
@@ -131,6 +132,7 @@ pub(crate) struct Front<'a> {
 }
 
 impl Front<'_> {
+    // Line `n`.
     pub(crate) fn line(&self, n: u32) -> Line
         requires { n < self.now.count }
         ensures { result ≡ line_at self.now.count self.now.bytes.now n }
@@ -143,13 +145,14 @@ impl Front<'_> {
         }
     }
 
+    // Replaces line `n`, in the buffer that was lent.
     pub(crate) fn replace(&mut self, n: u32, line: Line)
         requires { n < self.old.count }
         ensures same_reference { self.new.bytes.ghost_name ≡ self.old.bytes.ghost_name }
         ensures count { self.new.count ≡ self.old.count }
         ensures puts { PutsLine self.old.count self.old.bytes.now n line self.new.bytes.now }
         ensures proper { Proper line }
-        ensures picture { (ls : List Line) (more : List ℕ) → (length ls ≡ self.old.count) × (self.old.bytes.now ≡ picture ls ++ more) → self.new.bytes.now ≡ picture (slice_set ls n line) ++ more }
+        ensures picture { PutsInPicture self.old.count self.old.bytes.now n line self.new.bytes.now }
     {
         let bytes = &mut *self.bytes;
         bytes[state_place(self.count, n)] = state_byte(&line);
@@ -161,7 +164,8 @@ impl Front<'_> {
 }
 
 // Makes the buffer's front a picture of `count` blank lines, and gives its length. The bytes after it stay.
-// No `Front` is given: a `Result` with a lent slice in it cannot say yet that an `Err` leaves the slice as it was.
+// Tried with a `Front` as the result, and so without a buffer and a count in `put_line` and `write_picture`: a `Result` with
+// a lent slice in it leaves open what the buffer is at an `Err`.
 pub fn start_picture(buffer: &mut [u8], count: u32) -> Result<usize, Refusal>
     ensures { MatchResult result (λ n. (n ≡ picture_length count) × Room count buffer.old × (buffer.new ≡ picture (replicate count blank) ++ drop n buffer.old)) (λ e. (e ≡ Refusal.NoRoomToSave) × (Room count buffer.old → ⊥) × (buffer.new ≡ buffer.old)) }
 {
@@ -178,7 +182,7 @@ pub fn start_picture(buffer: &mut [u8], count: u32) -> Result<usize, Refusal>
 pub fn put_line(buffer: &mut [u8], count: u32, n: u32, line: Line)
     ensures puts { n < count → picture_length count ≤ length buffer.old → PutsLine count buffer.old n line buffer.new × Proper line }
     ensures stays { ((n < count) × (picture_length count ≤ length buffer.old) → ⊥) → buffer.new ≡ buffer.old }
-    ensures picture { (ls : List Line) (more : List ℕ) → (length ls ≡ count) × (buffer.old ≡ picture ls ++ more) → buffer.new ≡ picture (slice_set ls n line) ++ more }
+    ensures picture { PutsInPicture count buffer.old n line buffer.new }
 {
     if n < count && picture_length(count) <= buffer.len() {
         let mut front = Front {

@@ -33,8 +33,7 @@ pub struct Handed {
     pub taken: u32,
 }
 
-// Four words that planner and probe share, all empty between two hand-overs, and the number of
-// the next request.
+// Four words that planner and probe share, all empty between two hand-overs, and the number of the next request.
 #[derive(Drop)]
 pub struct Words {
     pub line: Line,
@@ -101,8 +100,8 @@ impl fmt::Display for Fault {
 
 impl Error for Fault {}
 
-// `collect` fails with an `AllocError` and `push` with an `AllocFailed`: one impl for both would
-// clash with that for `Refusal`.
+// By `?` a `collect` gives an `AllocError` and a `push` an `AllocFailed`. One generic impl for both was tried: it overlaps
+// with `From<Refusal>`.
 impl From<AllocError> for Fault {
     ghost from_gives = { λ _ r. r ≡ NoMemory };
 
@@ -136,7 +135,7 @@ pub fn carry_out(heap: Global, faces: &[Face]) -> Result<Vec<Handed>, Fault>
 {
     let mut words = Words::starting_at(1);
     let mut all = Vec::new(heap);
-    // A loop: each hand-over changes the words, so a chain's contract would say too little.
+    // Tried as a chain: of a closure that changes the words its contract says too little.
     for face in faces {
         all.push(words.hand_over(*face)?)?;
     }

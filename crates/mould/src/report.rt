@@ -6,6 +6,7 @@ use crate::exchange::Handed;
 use crate::plan::Face;
 use std::fmt;
 
+// By hand, as that of the totals is, since a derived one would have no contract on its text.
 impl fmt::Display for Handed {
     ghost output = { λ h. Some (shown_handed h) };
 

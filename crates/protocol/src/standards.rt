@@ -58,7 +58,7 @@ pub enum Standard {
 }
 
 impl Standard {
-    // The state that a code stands for; a code that is not used counts as invalid.
+    // The state that a code stands for; a code that is not used counts as invalid, so nothing is refused as in a `TryFrom`.
     fn state(self, code: u8) -> LineState
         ensures { result ≡ state_of self code }
     {

@@ -1,5 +1,5 @@
 // What a request is answered.
-ghost use Rattle.std.specs.Prelude.{◌≡◌};
+ghost use Rattle.std.specs.Prelude.{◌≡◌, Some};
 ghost use Rattle.tagged.specs.Answers.{outcome_number, notice_number};
 
 use crate::words::WordState;
@@ -25,9 +25,17 @@ impl From<Outcome> for u8 {
 #[derive(Clone, Copy, Debug, PartialEq, Eq)]
 pub enum Notice {
     // An empty word was filled.
-    BusSWr,
+    BusSWr = 1,
     // A full word was emptied.
-    BusSCl,
+    BusSCl = 2,
+}
+
+impl From<Notice> for u8 {
+    ghost from_gives = { λ notice number. number ≡ notice_number (Some notice) };
+
+    fn from(notice: Notice) -> u8 {
+        notice as u8
+    }
 }
 
 impl Notice {
@@ -35,16 +43,12 @@ impl Notice {
     pub fn number(told: Option<Notice>) -> u8
         ensures { result ≡ notice_number told }
     {
-        match told {
-            None => 0,
-            Some(Notice::BusSWr) => 1,
-            Some(Notice::BusSCl) => 2,
-        }
+        told.map_or(0, u8::from)
     }
 }
 
-// By a rule of the project all six figures are there for every outcome: unless it is done, `value` and `woken` are 0 and
-// nothing is told; where it waits, `found` is empty too.
+// All six figures are there for every outcome, as the project asks (docs/OPERATIONS.md): unless it is done, `value` and
+// `woken` are 0 and nothing is told; where it waits, `found` is empty too.
 #[derive(Clone, Copy, Debug, PartialEq, Eq)]
 pub struct Answer {
     // The request's number.

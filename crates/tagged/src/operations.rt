@@ -46,6 +46,7 @@ impl Class {
     }
 }
 
+// Reads and writes have a variant each, though with the same fields: what is needed, answered and left differs first by that.
 #[derive(Clone, Copy, Debug, PartialEq, Eq)]
 pub enum Operation {
     Read { class: Class, altering: bool },
@@ -104,7 +105,7 @@ impl Operation {
         }
     }
 
-    // Four bytes, which a `Display` would give as text only.
+    // A name is four bytes; a `Display` would only print it.
     pub fn name(self) -> [u8; 4]
         ensures { result ≡ name_of self }
     {
@@ -121,27 +122,30 @@ impl From<Operation> for u8 {
     ghost from_gives = { λ operation code. code ≡ code_of operation };
 
     fn from(operation: Operation) -> u8 {
-        match operation {
-            Operation::Read { class, altering } => 4 * class as u8 + 2 * u8::from(altering),
-            Operation::Write { class, altering } => 4 * class as u8 + 2 * u8::from(altering) + 1,
-            Operation::Clear => 16,
-        }
+        let (class, altering, is_write) = match operation {
+            Operation::Read { class, altering } => (class, altering, false),
+            Operation::Write { class, altering } => (class, altering, true),
+            Operation::Clear => return 16,
+        };
+        4 * class as u8 + 2 * u8::from(altering) + u8::from(is_write)
     }
 }
 
-// The operation with a code; none above 16.
+// The operation with a code; a number above 16 is refused.
 impl TryFrom<u8> for Operation {
     type Error = Refusal;
 
     ghost try_from_gives = { Decodes };
 
     fn try_from(code: u8) -> Result<Operation, Refusal> {
+        if code == 16 {
+            return Ok(Operation::Clear);
+        }
         let class = match code / 4 {
             0 => Class::Unconditional,
             1 => Class::Waiting,
             2 => Class::NonFaulting,
             3 => Class::Trapping,
-            _ if code == 16 => return Ok(Operation::Clear),
             _ => return Err(Refusal::NoSuchOperation),
         };
         let altering = code % 4 >= 2;
@@ -157,18 +161,19 @@ impl TryFrom<u8> for Operation {
 #[derive(Clone, Copy, Debug, PartialEq, Eq)]
 pub struct UnknownName;
 
+// By hand, since a derived one would have no contract on its text.
 impl fmt::Display for UnknownName {
-    ghost output = { λ _. Some (codes "no operation has the name") };
+    ghost output = { λ _. Some (codes "no operation has this name") };
 
     fn fmt<W: fmt::Write>(&self, f: &mut fmt::Formatter<W>) -> fmt::Result {
-        write!(f, "no operation has the name")
+        write!(f, "no operation has this name")
     }
 }
 
 impl Error for UnknownName {}
 
-// The operation with a name; none where the bytes are no operation's name. By a rule of the project slice patterns of four
-// letters tell it, one for reads and one for writes.
+// The operation with a name; refused where the bytes are no operation's name. Two patterns of four letters, and no common
+// one: the project asks for this form (docs/DECISIONS.md).
 impl TryFrom<&[u8]> for Operation {
     type Error = UnknownName;
 
@@ -190,7 +195,7 @@ impl TryFrom<&[u8]> for Operation {
     }
 }
 
-// The second letter of a name: A if the operation is altering, else N. By hand, since a `bool` has no such letter elsewhere.
+// The second letter of a name: A if the operation is altering, else N. By hand: only names write a `bool` so.
 fn alter_letter(altering: bool) -> u8
     ensures { result ≡ alter_letter altering }
 {

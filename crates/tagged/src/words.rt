@@ -26,7 +26,8 @@ pub struct Word {
 // Word w of a memory stands in line w / 4 at place w % 4.
 pub const WORDS_PER_LINE: u32 = 4;
 
-// Values and states in an array each, copied by value between memory, bus and frames: a rule of the project.
+// Values and states in an array each, copied by value between memory, bus and frames: the project asks for this form
+// (docs/DECISIONS.md).
 #[derive(Clone, Copy, Debug, PartialEq, Eq)]
 pub struct Line {
     pub values: [u32; 4],

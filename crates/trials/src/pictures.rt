@@ -50,15 +50,15 @@ fn random_pictures_read_back(rt: HostRuntime) -> Result<(), Fail> {
         let count = 1 + round * 3;
         let mut lines = random_lines(rt.alloc(), &mut seed, count)?;
         let mut buffer = vec![in rt.alloc(); 170; 2000]?;
-        let length = write_picture(lines.as_slice(), buffer.as_mut_slice())?;
+        let length = write_picture(&lines, &mut buffer)?;
         assert_eq!(rt; length, 4 + 17 * count as usize);
         assert!(rt; length < buffer.len());
-        for byte in &buffer.as_slice()[length..2000] {
+        for byte in &buffer[length..] {
             assert_eq!(rt; *byte, 170, "a byte after the picture changed");
         }
-        assert_eq!(rt; check_picture(&buffer.as_slice()[0..length])?, count);
-        let mut memory = Picture::over(&mut buffer.as_mut_slice()[0..length]);
-        compare(&rt, &memory, lines.as_slice())?;
+        assert_eq!(rt; check_picture(&buffer[..length])?, count);
+        let mut memory = Picture::over(&mut buffer[..length]);
+        compare(&rt, &memory, &lines)?;
         let n = next(&mut seed) % count;
         let line = random_line(&mut seed);
         memory.write(n, line);
@@ -66,7 +66,7 @@ fn random_pictures_read_back(rt: HostRuntime) -> Result<(), Fail> {
         if let Some(place) = lines.get_mut(n as usize) {
             *place = line;
         }
-        compare(&rt, &memory, lines.as_slice())?;
+        compare(&rt, &memory, &lines)?;
     }
     Ok(())
 }
@@ -79,12 +79,11 @@ fn told(bytes: &[u8]) -> Result<u32, (u8, usize)> {
 #[test]
 fn short_strings_are_refused(rt: HostRuntime) {
     let bytes = [1, 0, 0, 0, 9];
-    assert_eq!(rt; told(&bytes[0..0]), Err((15, 0)));
-    assert_eq!(rt; told(&bytes[0..1]), Err((15, 0)));
-    assert_eq!(rt; told(&bytes[0..2]), Err((15, 0)));
-    assert_eq!(rt; told(&bytes[0..3]), Err((15, 0)));
-    assert_eq!(rt; told(&bytes[0..4]), Err((16, 4)));
-    assert_eq!(rt; told(&bytes[0..5]), Err((16, 5)));
+    for length in 0..4 {
+        assert_eq!(rt; told(&bytes[..length]), Err((15, 0)));
+    }
+    assert_eq!(rt; told(&bytes[..4]), Err((16, 4)));
+    assert_eq!(rt; told(&bytes), Err((16, 5)));
 }
 
 #[test]

@@ -6,7 +6,8 @@ use tagged::operations::Operation;
 use tagged::words::{Word, WordState};
 
 // By column: outcome (0 done, 1 discarded, 2 trap, 3 waits), value, state found (0 empty, 1 full),
-// notice (0 none, 1 BusSWr, 2 BusSCl), and value and state of the word afterwards.
+// notice (0 none, 1 BusSWr, 2 BusSCl), and value and state of the word afterwards. Written in numbers, as answers carry
+// them, so that the numbers are tested too.
 type Row = ([u8; 4], [u32; 6]);
 
 // In the order of the codes. The word holds 9, and the operation brings 4.
