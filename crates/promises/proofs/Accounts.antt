@@ -1,4 +1,5 @@
 -- Every accepted request is answered once, withdrawn, or waits; and the tally counts.
+use Rattle.std.proofs.lemmas.Bool.Decides.{nat_tests}
 use Rattle.std.proofs.Common.{◌≡◌, ℕ, ◌+◌, ◌≤◌, Bool, false, ◌⊎◌, List, ◌∷◌, ◌++◌, length, refl, ap, ◌∙◌, ⊎_elim, arith, length-append, []}
 use Rattle.std.proofs.lemmas.List.Sums.{sum_by-cons, sum_by-append}
 use Rattle.tagged.specs.declared.answers.Outcome.{Outcome}
@@ -76,9 +77,9 @@ module _ (c : Call) (h : List Call) (s t : State) (new : List ℕ) (x : Outcome)
     once = λ k.
         ⊎_elim (λ none. omega (arith, grows accepted_by new adds.accepts k, was.once k)) (λ p. omega (arith, grows accepted_by new adds.accepts k, was.fresh k (omega (arith, p.0)), p.1)) (adds.given k);
     accepted = omega (arith, longer accepted_by new adds.accepts, was.accepted, adds.counts.accepted);
-    done = omega (arith, longer (answered_by (had_outcome Done)) _ (adds.answers (had_outcome Done) refl), was.done, adds.counts.done);
-    discarded = omega (arith, longer (answered_by (had_outcome Discarded)) _ (adds.answers (had_outcome Discarded) refl), was.discarded, adds.counts.discarded);
-    trapped = omega (arith, longer (answered_by (had_outcome Trap)) _ (adds.answers (had_outcome Trap) refl), was.trapped, adds.counts.trapped);
-    withdrawn = omega (arith, longer withdrawn_by gone adds.withdraws, was.withdrawn, adds.counts.withdrawn);
+    done = grind (arith, nat_tests);
+    discarded = grind (arith, nat_tests);
+    trapped = grind (arith, nat_tests);
+    withdrawn = grind (arith, nat_tests);
     sum = omega (arith, was.sum, adds.counts.sum, adds.lists _ _ length_measure, sum_ones (number_if (is_answer x) j), sum_ones gone, sum_ones new, adds.counts.accepted, adds.counts.withdrawn);
   }

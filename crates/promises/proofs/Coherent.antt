@@ -1,5 +1,6 @@
 -- Every run is sound, and so coherent.
-use Rattle.std.proofs.Common.{List, [], sym, refl, ◌∙◌, subst, arith}
+use Rattle.std.proofs.lemmas.Bool.Decides.{nat_tests}
+use Rattle.std.proofs.Common.{List, [], sym, refl, subst, arith}
 use Rattle.std.proofs.lemmas.Bool.{both_ways}
 use Rattle.protocol.specs.Rules.{Rules, Lawful}
 use Rattle.promises.specs.Board.{State}
@@ -57,5 +58,5 @@ coherent r law o h s ran =
     let sound = run_sound r law o h s ran in
     record {
       writers_are_alone = sound.copies.alone;
-      copies_are_equal = λ c d n k l. sound.copies.true_copies c n k ∙ sym (sound.copies.true_copies d n l);
+      copies_are_equal = λ c d n k l. grind (arith, nat_tests);
     }

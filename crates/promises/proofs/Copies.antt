@@ -1,16 +1,17 @@
 -- Copies and memory hold the one tagged memory's lines: what calls that do not serve a word keep of that.
+use Rattle.promises.proofs.Contents.{updated_same, updated_other}
 use Rattle.std.proofs.Common.{◌≡◌, ℕ, ◌%◌, ◌<◌, Bool, true, false, ◌&&◌, eqb, ◌⊎◌, sym, refl, ap, ◌∙◌, ⊎_elim, arith}
 use Rattle.std.proofs.lemmas.Bool.Decides.{nat_tests}
-use Rattle.std.proofs.lemmas.Bool.{cases_eq, cases_Bool, and_left, both_ways, cond-true, cond-false, false_from_ne_true}
+use Rattle.std.proofs.lemmas.Bool.{cases_eq, cases_Bool, and_left, both_ways, cond-true, cond-false, false_from_ne_true, cond_both, and_right}
 use Rattle.protocol.specs.Rules.{Rules, Lawful}
 use Rattle.tagged.specs.declared.words.Word.{Word}
-use Rattle.promises.specs.Board.{Frame, own_copy, read_in, claimed, unmet, Bus, free, granted, snooped, State, line_of}
+use Rattle.promises.specs.Board.{Frame, own_copy, read_in, claimed, unmet, Bus, free, granted, snooped, State, line_of, frame_of, Content}
 use Rattle.promises.specs.Copies.{copy, keeps, owns, owes, any_core}
 use Rattle.promises.specs.Refusing.{is_free}
-use Rattle.promises.specs.Steps.{evicted_state, drained_state}
+use Rattle.promises.specs.Steps.{evicted_state, drained_state, updated, dropped}
 use Rattle.promises.specs.OneMemory.{line_by_words}
 use Rattle.promises.specs.Promises.{WritersAreAlone}
-use Rattle.promises.proofs.Frames.{kept_of, keeps_same, lowest_passes, no_core_passes}
+use Rattle.promises.proofs.Frames.{kept_of, keeps_same, lowest_passes, no_core_passes, frame_cases}
 
 -- line n travels on the bus to be claimed
 abbrev pub claiming : Bus → ℕ → Bool
@@ -90,25 +91,38 @@ module _ (r : Rules) (law : Lawful r) (T : ℕ → Word) (s : State) (c w : ℕ)
 
   -- a copy that owed still does, unless it is the one that was dropped
   still : (d n : ℕ) → (n ≡ line_of w → d ≡ c → ⊥) → owes r after d n ≡ false → owes r s d n ≡ false
-  still d n apart e = grind (arith, place d n, not_kept_not_owing r s d n, one_line r s c n (line_of w), owes_same r after s d n)
+  still d n apart e =
+      ⊎_elim
+      (λ p. not_kept_not_owing r s d n (λ k. apart (one_line r s c n (line_of w) (ap (λ x. keeps r s x n) (sym p.0) ∙ k) kept p.1) p.0))
+      (λ p. sym (owes_same r after s d n p.1) ∙ e)
+      (place d n)
 
   evict_memory : (n : ℕ) → ((d : ℕ) → owes r after d n ≡ false) → claiming s.bus n ≡ false → after.memory n ≡ line_by_words T n
   unfolding after
   evict_memory n none quiet =
+      cond_both (r.owing (copy s c (line_of w)).code) (updated s.memory (line_of w) (copy s c (line_of w)).content) s.memory (λ (m : ℕ → Content). m n ≡ line_by_words T n)
+      (λ t.
       ⊎_elim
-      (λ e.
+      (λ e. ap (updated s.memory (line_of w) (copy s c (line_of w)).content) e ∙ updated_same s.memory (line_of w) _ ∙ was.true_copies c (line_of w) kept ∙ ap (line_by_words T) (sym e))
+      (λ ne. updated_other s.memory (line_of w) n _ ne ∙ elsewhere ne)
+      (cases_eq n (line_of w)))
+      (λ f.
       ⊎_elim
-      (λ t. grind (arith, nat_tests, was.true_copies c (line_of w) kept))
-      (λ f. grind (arith, nat_tests, was.true_memory n (λ d. ⊎_elim (λ same. grind arith) (λ ne. still d n (λ _ same. ne same) (none d)) (cases_eq d c)) quiet))
-      (cases_Bool (r.owing (copy s c (line_of w)).code)))
-      (λ ne. grind (arith, nat_tests, was.true_memory n (λ d. still d n (λ same _. ne same) (none d)) quiet))
-      (cases_eq n (line_of w))
+      (λ e. was.true_memory n (λ d. ⊎_elim (λ same. ap (λ x. owes r s x n) same ∙ ap (owes r s c) e ∙ and_right (keeps r s c (line_of w)) _ f) (λ ne. still d n (λ _ same. ne same) (none d)) (cases_eq d c)) quiet)
+      elsewhere
+      (cases_eq n (line_of w)))
+    where
+      elsewhere : (n ≡ line_of w → ⊥) → s.memory n ≡ line_by_words T n
+      elsewhere ne = was.true_memory n (λ d. still d n (λ same _. ne same) (none d)) quiet
 
   pub evict_copies : Copies r T (evicted_state r s c w)
   unfolding after
   evict_copies = record {
-    codes = λ d i. grind (arith, was.codes d i);
-    placed = λ d i k. grind (arith, nat_tests, law.zero_not_kept, was.placed d i);
+    codes = λ d i. ⊎_elim (λ p. rw p.2 (omega arith)) (λ p. rw p.1 (was.codes d i)) (frame_cases s.frame c (frame_of (line_of w)) (dropped (copy s c (line_of w))) d i);
+    placed = λ d i k.
+        ⊎_elim (λ p. absurd (both_ways (r.kept 0) law.zero_not_kept (sym (ap (λ (f : Frame). r.kept f.code) p.2) ∙ k)))
+        (λ p. ap (λ (f : Frame). f.line % 16) p.1 ∙ was.placed d i (sym (ap (λ (f : Frame). r.kept f.code) p.1) ∙ k))
+        (frame_cases s.frame c (frame_of (line_of w)) (dropped (copy s c (line_of w))) d i);
     true_copies = fewer_true r T s after was evict_fewer;
     alone = fewer_alone r T s after was evict_fewer;
     true_memory = evict_memory;
@@ -116,7 +130,9 @@ module _ (r : Rules) (law : Lawful r) (T : ℕ → Word) (s : State) (c w : ℕ)
 
 -- a free bus claims no line
 pub free_claims_none : (b : Bus) (n : ℕ) → is_free b ≡ true → claiming b n ≡ false
-free_claims_none b n e = grind arith
+free_claims_none free n e = refl
+free_claims_none (granted t) n e = refl
+free_claims_none (snooped t f) n e = absurd (both_ways false refl e)
 
 -- DRAIN: every copy is dropped, the owing ones written first
 module _ (r : Rules) (law : Lawful r) (T : ℕ → Word) (s : State) (was : Copies r T s) (quiet : is_free s.bus ≡ true) where

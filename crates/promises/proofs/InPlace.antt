@@ -1,7 +1,7 @@
 -- A word of a kept copy is changed where it stands: by an issue that answers, or by a settle of kind 0.
 use Rattle.std.proofs.Common.{◌≡◌, ℕ, ◌%◌, ◌<◌, Bool, true, false, cond, sym, ap, ◌∙◌, ⊎_elim, arith}
 use Rattle.std.proofs.lemmas.Bool.Decides.{nat_tests}
-use Rattle.std.proofs.lemmas.Bool.{cases_eq, cases_Bool, and_left, cond_both, false_from_ne_true}
+use Rattle.std.proofs.lemmas.Bool.{cases_eq, cases_Bool, and_left}
 use Rattle.protocol.specs.Rules.{Rules, Lawful}
 use Rattle.tagged.specs.declared.words.Word.{Word}
 use Rattle.promises.specs.Board.{Content, word_in, with_word_in, Frame, State, line_of, frame_of}
@@ -80,10 +80,10 @@ module _ (r : Rules) (law : Lawful r) (T : ℕ → Word) (s : State) (c w : ℕ)
     put : Put r T (changed T g w) s c n code content after
     put = record {
       frames = frames;
-      code_fits = cond_both claim _ _ (λ k. k < 256) (λ t. law.own_fits) (λ f. was.codes c (n % 16));
+      code_fits = grind (arith, nat_tests);
       true_content = changed_content T g w own.content (was.true_copies c n kept);
       other_lines = changed_other T g w;
-      shared_line = λ d ne k. ap (λ X. line_by_words X n) (updated_back T w _ (stays (false_from_ne_true claim (λ t. ne (alone_claim t d k)))));
+      shared_line = λ d ne k. grind (arith, nat_tests);
       only = λ e d ne k. grind (arith, alone_claim, was.alone c d n, kept);
       no_owner = λ d ne owner. ne (sym (was.alone d c n owner kept));
       true_memory = true_memory;

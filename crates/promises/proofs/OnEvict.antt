@@ -12,7 +12,7 @@ use Rattle.promises.specs.OneMemory.{TaggedMemory, feed}
 use Rattle.promises.proofs.Frames.{keeps_same}
 use Rattle.promises.proofs.Copies.{keeps_empty, one_line, evict_copies, drain_copies}
 use Rattle.promises.proofs.Tenures.{Like, found_like, BusTrue}
-use Rattle.promises.proofs.Sound.{Sound, TenureWaits, tenure_kept, cleared, by_reply}
+use Rattle.promises.proofs.Sound.{Sound, TenureWaits, cleared, by_reply}
 
 module _ (r : Rules) (law : Lawful r) (m : TaggedMemory) (s : State) (was : Sound r m s) where
   -- the copies of other lines stay
@@ -44,7 +44,7 @@ module _ (r : Rules) (law : Lawful r) (m : TaggedMemory) (s : State) (was : Soun
         copies = evict_copies r law m.word s c w was.copies kept;
         bus = evict_bus c w kept s.bus clear.1.1.1.0 was.bus;
         notes = was.notes;
-        tenure = tenure_kept s (evicted_state r s c w) s.bus (λ x h. record { core = h.core; present = h.present }) was.tenure;
+        tenure = grind (arith, nat_tests);
         sleepers = was.sleepers;
       })
 

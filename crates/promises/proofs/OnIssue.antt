@@ -1,13 +1,13 @@
 -- Issue.
-use Rattle.std.proofs.Common.{◌≡◌, ℕ, ◌+◌, ◌%◌, Bool, true, false, cond, not, ◌&&◌, ◌⊎◌, Some, sym, refl, ap, ◌∙◌, subst, ⊎_elim, arith, rules, Ok}
+use Rattle.std.proofs.Common.{◌≡◌, ℕ, ◌+◌, ◌%◌, ◌<◌, Bool, true, false, cond, not, ◌&&◌, ◌⊎◌, Some, Ok, sym, refl, ap, ◌∙◌, subst, ⊎_elim, arith}
 use Rattle.std.proofs.lemmas.Bool.Decides.{nat_tests}
-use Rattle.std.proofs.lemmas.Bool.{cases_eq, cases_Bool, and_parts, and_from, cond-true, cond-false, false_from_ne_true, cond_both}
+use Rattle.std.proofs.lemmas.Bool.{cases_eq, cases_Bool, and_parts, and_from, cond-true, cond-false, false_from_ne_true, cond_both, both_ways, not_from_true, or_cases, not-true}
 use Rattle.protocol.specs.Rules.{Rules, Lawful}
 use Rattle.tagged.specs.declared.answers.Answer.{Answer}
 use Rattle.tagged.specs.declared.operations.Operation.{Operation}
 use Rattle.tagged.specs.declared.rule.Served.{Served}
 use Rattle.tagged.specs.declared.words.Word.{Word}
-use Rattle.promises.specs.Board.{Frame, Entry, Tenure, Found, own_copy, read_in, claimed, unmet, Bus, State, line_of, frame_of}
+use Rattle.promises.specs.Board.{Frame, Entry, Tenure, Found, own_copy, read_in, claimed, unmet, Bus, State, line_of, frame_of, free, granted, snooped, word_in}
 use Rattle.tagged.specs.Rule.{met, rule}
 use Rattle.tagged.specs.Operations.{claims, class_of, operation_coded}
 use Rattle.tagged.specs.Rule.{unmet_outcome}
@@ -58,8 +58,9 @@ module _ (r : Rules) (law : Lawful r) (m : TaggedMemory) (s : State) (was : Soun
   -- a request that goes to sleep at its issue is unmet
   new_sleeper : (in_reach r s c o w v && not (own_met r s c o w v)) ≡ true → met o (T w).state ≡ false
   new_sleeper e =
-      let kept : keeps r s c (line_of w) ≡ true = grind arith in
-      grind (arith, was.copies.true_copies c (line_of w) kept, line_word T w)
+      let p = and_parts (in_reach r s c o w v) _ e in
+      let kept = (and_parts (not (any_entry (on_word w) (s.waiting c))) _ p.0).1 in
+      sym (ap (λ f. met o (word_in f w).state) (was.copies.true_copies c (line_of w) kept) ∙ ap (λ (x : Word). met o x.state) (line_word T w)) ∙ not-true _ p.1
 
   later_sound : Sound r noting (issue_later r s c o w v)
   later_sound = record {
@@ -96,13 +97,16 @@ module _ (r : Rules) (law : Lawful r) (m : TaggedMemory) (s : State) (was : Soun
     claim = own_met r s c o w v && claims o
 
     pub own_is : own_word r s c o w v ≡ m.word w
-    own_is = cc (was.copies.true_copies c n kept, line_word T w)
+    own_is = ap (λ f. word_in f w) (was.copies.true_copies c n kept) ∙ line_word T w
 
     sole : claim ≡ true → r.sole (copy s c n).code ≡ true
-    sole e = grind (arith, now)
+    sole e =
+        let p = and_parts (own_met r s c o w v) _ e in
+        let q = sym (cond-true _ _ _ p.0) ∙ (and_parts (in_reach r s c o w v) _ now).1 in
+        ⊎_elim (λ z. absurd (both_ways _ (not_from_true _ p.1) z)) (λ z. z) (or_cases (not (claims o)) _ q)
 
     stays : claim ≡ false → g (T w) ≡ T w
-    stays e = rule_stays o (T w) v (rw (← own_is) e)
+    stays e = rule_stays o (T w) v (ap (λ (x : Word). met o x.state && claims o) (sym own_is) ∙ e)
 
     abbrev after : State
     after = issue_now r s c o w v
@@ -122,7 +126,7 @@ module _ (r : Rules) (law : Lawful r) (m : TaggedMemory) (s : State) (was : Soun
       kept = λ d. ⊎_elim (λ p. at_place d p) (λ p. keeps_same r after s d x p.1) (place d x);
       code = λ d k.
           ⊎_elim
-          (λ p. grind (arith, p.2, other (line_same d p k)))
+          (λ p. ap (λ (f : Frame). f.code) p.2 ∙ cond-false _ _ _ (other (line_same d p k)) ∙ (λ i. (s.frame (sym p.0 i) (sym p.1 i)).code))
           (λ p. ap (λ (f : Frame). f.code) p.1)
           (place d x);
     }
@@ -134,12 +138,12 @@ module _ (r : Rules) (law : Lawful r) (m : TaggedMemory) (s : State) (was : Soun
         at_place d p =
             ⊎_elim
             (λ same.
+            let code : (copy after d x).code ≡ (copy s c n).code = ap (λ (f : Frame). f.code) p.2 ∙ cond-false _ _ _ (other same) in
             let own = kept_of r s c n kept in
-            let code : r.kept (copy after d x).code ≡ true = grind (arith, other same, own.code) in
-            let still = keeps_by r after d x (record { core = grind (arith, own.core); line = grind (arith, own.line); code = code }) in
-            grind arith)
+            keeps_by r after d x (record { core = subst (λ y. y < 8) (sym p.0) own.core; line = ap (λ (f : Frame). f.line) p.2 ∙ own.line ∙ sym same; code = ap r.kept code ∙ own.code })
+            ∙ sym (ap (λ y. keeps r s y x) p.0 ∙ ap (keeps r s c) same ∙ kept))
             (λ ne.
-            let afterwards : keeps r after d x ≡ true → x ≡ n = λ k. grind (arith, p.2, kept_of r after d x k, kept_of r s c n kept) in
+            let afterwards : keeps r after d x ≡ true → x ≡ n = λ k. sym (kept_of r after d x k).line ∙ ap (λ (f : Frame). f.line) p.2 ∙ (kept_of r s c n kept).line in
             false_from_ne_true _ (λ k. ne (afterwards k)) ∙ sym (false_from_ne_true _ (λ k. ne (line_same d p k))))
             (cases_eq x n)
 
@@ -161,8 +165,10 @@ module _ (r : Rules) (law : Lawful r) (m : TaggedMemory) (s : State) (was : Soun
         claimed_now : (t : Tenure) (f : Found) → WaitsIn s t → line_of t.entry.word ≡ n → claim ≡ true → FoundTrue r T s t f → FoundTrue r (changed T g w) after t f
         claimed_now t own_copy here e y h =
             let mine : t.core ≡ c = was.copies.alone c t.core n (owner y) (ap (keeps r s t.core) (sym e) ∙ h.0.kept) in
-            let apart : t.entry.word ≡ w → ⊥ = λ same. grind (arith, first, present_on_word t.entry (s.waiting t.core) here.present) in
-            let frame : copy after t.core (line_of t.entry.word) ≡ record { code = r.own_claim; line = (copy s c n).line; content = filled.content } = grind (arith, place t.core (line_of t.entry.word)) in (
+            let apart : t.entry.word ≡ w → ⊥ = λ same. both_ways _ first (ap (λ x. any_entry (on_word x) (s.waiting c)) (sym same) ∙ ap (λ d. any_entry (on_word t.entry.word) (s.waiting d)) (sym mine) ∙ present_on_word t.entry (s.waiting t.core) here.present) in
+            let frame : copy after t.core (line_of t.entry.word) ≡ record { code = r.own_claim; line = (copy s c n).line; content = filled.content } =
+            ⊎_elim (λ p. p.2 ∙ ap (λ k. record { code = k; line = (copy s c n).line; content = filled.content }) (cond-true _ _ _ y)) (λ p. absurd (p.0 (mine, ap (λ x. x % 16) e))) (place t.core (line_of t.entry.word))
+            in (
               record {
                 kept = keeps_by r after t.core (line_of t.entry.word) (record { core = here.core; line = ap (λ (z : Frame). z.line) frame ∙ (kept_of r s c n kept).line ∙ sym e; code = ap (λ (z : Frame). r.kept z.code) frame ∙ law.own_kept });
                 sole = λ _. ap (λ (z : Frame). r.sole z.code) frame ∙ law.own_sole;
@@ -175,7 +181,9 @@ module _ (r : Rules) (law : Lawful r) (m : TaggedMemory) (s : State) (was : Soun
         claimed_now t (unmet x found) here e y h = h
 
     now_bus : (b : Bus) → TenureWaits s b → BusTrue r T s b → BusTrue r (changed T g w) after b
-    now_bus b here h = search (rules, found_now)
+    now_bus free here h = tt
+    now_bus (granted t) here h = tt
+    now_bus (snooped t f) here h = found_now t f here h
 
     abbrev deciding : TaggedMemory
     deciding = decide noting s.next
@@ -197,7 +205,7 @@ module _ (r : Rules) (law : Lawful r) (m : TaggedMemory) (s : State) (was : Soun
         word = ap (λ x. (serve_noted noting s.next x).word) fresh
 
         noted_again : (d : ℕ) (e : Entry) → Noted noting (s.next + 1) d e → Noted deciding (s.next + 1) d e
-        noted_again d e h = grind (arith, nat_tests)
+        noted_again d e h = record { note = ap (λ x. (serve_noted noting s.next x).noted e.number) fresh ∙ h.note; below = h.below }
 
     -- an issue that answers at once answers for good
     pub answers : is_answer (issue_served r s c o w v).outcome ≡ true

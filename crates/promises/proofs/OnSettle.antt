@@ -1,6 +1,6 @@
 -- Settle.
 use Rattle.std.proofs.lemmas.Bool.Decides.{nat_tests}
-use Rattle.std.proofs.Common.{◌≡◌, ℕ, ◌≤◌, List, map, Some, Ok, Option, sym, refl, ap, ◌∙◌, subst, arith}
+use Rattle.std.proofs.Common.{◌≡◌, ℕ, List, map, Some, Ok, Option, sym, refl, ap, ◌∙◌, subst, arith}
 use Rattle.std.proofs.lemmas.Bool.{cond-true, cond-false, cond_both}
 use Rattle.protocol.specs.Rules.{Rules, Lawful}
 use Rattle.tagged.specs.declared.answers.Answer.{Answer}
@@ -66,9 +66,9 @@ module _ (r : Rules) (law : Lawful r) (m : TaggedMemory) (s : State) (was : Soun
     -- kinds 0 to 2
     done_sound : Met m.word t → (after : State) → Copies r (served m.word t.entry.operation t.entry.word t.entry.value) after → after.setup ≡ s.setup → after.next ≡ s.next → after.bus ≡ free → ((c : ℕ) → EveryEntry (Noted m s.next c) (after.waiting c)) → ((c : ℕ) → EveryEntry (SleepsRight (served m.word t.entry.operation t.entry.word t.entry.value)) (after.waiting c)) → Sound r (decide m t.entry.number) after
     done_sound is after copies setup next quiet lists asleep = record {
-      few_cores = subst (λ x. x.cores ≤ 8) (sym setup) was.few_cores;
+      few_cores = grind (arith, nat_tests);
       copies = subst (λ T. Copies r T after) (sym (served_word is)) copies;
-      bus = subst (BusTrue r (decide m t.entry.number).word after) (sym quiet) tt;
+      bus = grind (arith, nat_tests);
       notes = λ c. subst (λ x. EveryEntry (Noted (decide m t.entry.number) x c) (after.waiting c)) (sym next) (every_weaker (Noted m s.next c) (Noted (decide m t.entry.number) s.next c) (λ e h. record { note = ap (λ x. x e.number) served_noted ∙ h.note; below = h.below }) (after.waiting c) (lists c));
       tenure = subst (TenureWaits after) (sym quiet) tt;
       sleepers = λ c. subst (λ T. EveryEntry (SleepsRight T) (after.waiting c)) (sym (served_word is)) (asleep c);

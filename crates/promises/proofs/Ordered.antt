@@ -4,12 +4,14 @@ use Rattle.std.proofs.lemmas.Bool.Decides.{nat_tests}
 use Rattle.std.proofs.lemmas.Bool.{cases_eq, cond-true, cond_both}
 use Rattle.protocol.specs.Rules.{Rules, Lawful}
 use Rattle.tagged.specs.Operations.{class_of, operation_coded}
+use Rattle.tagged.specs.declared.answers.Outcome.TheVariants.{Waits}
+use Rattle.tagged.specs.declared.words.WordState.TheVariants.{Empty}
 use Rattle.tagged.specs.declared.operations.Operation.{Operation}
 use Rattle.promises.specs.Board.{Entry, Tenure, Found, own_copy, read_in, claimed, unmet, Bus, free, granted, State}
 use Rattle.promises.specs.Calls.{to_snoop, Slip, Call, issue, grant, give_back, snoop, settle, withdraw, evict, drain, look, save, tally}
 use Rattle.promises.specs.Lists.{any_entry, on_word, without, put_to_sleep, oldest_ready}
 use Rattle.promises.specs.Refusing.{first_reason, grant_reasons, slip_reasons, withdraw_reasons, evict_reasons, drain_reasons}
-use Rattle.promises.specs.Steps.{Step, updated, with_bus, grant_bus, in_reach, own_met, snoop_met, waits, snoop_kind, snoop_state, is_waits, settle_state, settle_answer, holder, withdrawn_state, evicted_state, drained_state, answers_now, issue_served, issue_now, issue_later}
+use Rattle.promises.specs.Steps.{Step, updated, with_bus, grant_bus, in_reach, own_met, snoop_met, waits, snoop_kind, snoop_state, is_waits, settle_state, settle_answer, holder, withdrawn_state, evicted_state, drained_state, answers_now, issue_served, issue_now, issue_later, answer_undone}
 use Rattle.promises.specs.Runs.{Opening, Ran, opens, goes_on}
 use Rattle.promises.specs.OneMemory.{TaggedMemory, note, decide, noted_gives_up, is_done, is_answer, feed, one_memory}
 use Rattle.promises.specs.Promises.{EveryEntry, IsDecidedOnce, EveryRunDecidesInIssueOrder}
@@ -132,13 +134,17 @@ module _ (r : Rules) (m : TaggedMemory) (s : State) (sound : Sound r m s) (was :
         (λ d. (within_wake _ _ (s.waiting d)).each (λ i x. c ≡ d → w ≡ x → s.next ≤ i) (of_core c (λ e. w ≡ e.word → s.next ≤ e.number) (every_weaker (λ e. w ≡ e.word → ⊥) _ (λ e h q. absurd (h q)) (s.waiting c) (none_on_word w (s.waiting c) alone)) d))
         (fewer_wait noting s (issue_now r s c o w v) noted_ordered (λ d. within_wake _ _ (s.waiting d)) (omega arith) (oldest_kept s (issue_now r s c o w v) s.bus (λ d. within_wake _ _ (s.waiting d)) was.oldest))
 
-    issued : answers_now r s c o w v ≡ true → Ordered (feed m (issue c k w v (Ok (answer_now r s c o w v)))) (issue_now r s c o w v)
-    issued y =
+    answered : answers_now r s c o w v ≡ true → Ordered (feed m (issue c k w v (Ok (answer_now r s c o w v)))) (issue_now r s c o w v)
+    answered y =
         let alone : any_entry (on_word w) (s.waiting c) ≡ false = grind arith in
         subst (λ n. Ordered n (issue_now r s c o w v)) (sym (cond-true (is_answer (issue_served r s c o w v).outcome) (decide noting s.next) noting (answers r law m s sound c o w v y))) (now_ordered alone)
 
+    issued : (b : Bool) → answers_now r s c o w v ≡ b → Ordered (feed m (issue c k w v (Ok (cond b (answer_now r s c o w v) (answer_undone s.next Waits Empty))))) (cond b (issue_now r s c o w v) (issue_later r s c o w v))
+    issued true y = answered y
+    issued false y = later_ordered
+
   pub call_ordered : Lawful r → (c : Call) (t : State) → Step r s c t → IsDecidedOnce (feed m c) → Ordered (feed m c) t
-  call_ordered law (issue c k w v a) t step once = by_issue (λ b u. Ordered (feed m (issue c k w v b)) u) r s t c k w v a step (λ e. was) (issued law c k w v) (λ _. later_ordered law c k w v)
+  call_ordered law (issue c k w v a) t step once = by_issue (λ b u. Ordered (feed m (issue c k w v b)) u) r s t c k w v a step (λ e. was) (issued law c k w v true) (λ _. later_ordered law c k w v)
   call_ordered law (grant c a) t step once = by_reply (λ b u. Ordered m u) s t _ (first_reason (grant_reasons s c)) _ a step.0 step.1 (λ e. was) (λ none. granted_ordered c (oldest_ready [] (s.waiting c)) refl)
   call_ordered law (give_back slip a) t step once = by_reply (λ b u. Ordered m u) s t (with_bus s free) (first_reason (slip_reasons s slip to_snoop)) _ a step.0 step.1 (λ e. was) (λ none. search rules)
   call_ordered law (snoop slip a) t step once =

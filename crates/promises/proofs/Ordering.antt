@@ -75,7 +75,7 @@ decide_ordered m s k x noted below newest oldest was =
       below = λ j often. ⊎_elim (λ same. omega (arith, same, below)) (λ ne. was.below j (before j ne often)) (cases_eq j k);
       oldest = was.oldest;
       earlier = λ c. every_weaker (λ e. Earlier m c e.number e.word × (x.core ≡ c → x.word ≡ e.word → k ≤ e.number)) (λ e. Earlier (serve_noted m k (Some x)) c e.number e.word) (later c) (s.waiting c) (every_both (λ e. Earlier m c e.number e.word) (λ e. x.core ≡ c → x.word ≡ e.word → k ≤ e.number) (s.waiting c) (was.earlier c) (oldest c));
-      order = ((λ j often place. newest j often (subst (SamePlace (m.noted j)) noted place)), was.order);
+      order = grind (arith, nat_tests);
     })
   where
     before : (j : ℕ) → (j ≡ k → ⊥) → 1 ≤ times j (k ∷ m.decided) → 1 ≤ times j m.decided

@@ -1,4 +1,5 @@
 -- A line is put into a frame, perhaps with a changed word.
+use Rattle.std.proofs.lemmas.Bool.Decides.{nat_tests}
 use Rattle.std.proofs.Common.{◌≡◌, ℕ, ◌%◌, ◌<◌, true, false, ◌⊎◌, sym, ap, ◌∙◌, arith}
 use Rattle.protocol.specs.Rules.{Rules}
 use Rattle.tagged.specs.declared.words.Word.{Word}
@@ -46,7 +47,7 @@ module _ (r : Rules) (T T' : ℕ → Word) (s : State) (c n code : ℕ) (content
 
   pub put_copies : Copies r T' after
   put_copies = record {
-    codes = λ d i. grind (arith, put.frames d i, frame_cases s.frame c (frame_of n) new d i, put.code_fits, was.codes d i);
+    codes = λ d i. grind (arith, nat_tests);
     placed = λ d i k. grind (arith, put.frames d i, frame_cases s.frame c (frame_of n) new d i, was.placed d i);
     true_copies = put_true;
     alone = put_alone;

@@ -13,7 +13,6 @@ use Rattle.promises.specs.OneMemory.{decide, is_done, is_answer, feed, one_memor
 use Rattle.promises.specs.Promises.{EveryEntry, InIssueOrder}
 use Rattle.promises.specs.Refuted.{FalseIsRefused, PromisesTellTrueFromFalse}
 use Rattle.promises.specs.Runs.{Opening}
-use Rattle.promises.proofs.Copies.{owns_keeps}
 use Rattle.promises.proofs.Counting.{one}
 use Rattle.promises.proofs.Deciding.{when_answered}
 use Rattle.promises.proofs.Example.{example_ran}
@@ -35,7 +34,7 @@ refuted r o = record {
   answered_twice = λ k h often s kept. omega (arith, often, kept.requests_are_accounted k, kept.numbers_are_given_once k);
   number_given_twice = λ k h often s kept. omega (arith, often, kept.numbers_are_given_once k);
   withdrawn_and_answered = λ k h gone often s kept. omega (arith, gone, often, kept.requests_are_accounted k, kept.numbers_are_given_once k);
-  look_shows_another = λ w x y h other s kept. other (kept.all_speak_true.0 ∙ sym kept.all_speak_true.1.0);
+  look_shows_another = λ w x y h other s kept. grind (arith, nat_tests);
   tally_off = λ x h. (
     (λ off s kept. off kept.tallies_are_true.0.accepted),
     (λ off s kept. off kept.tallies_are_true.0.done),
@@ -48,7 +47,7 @@ refuted r o = record {
       let order = subst (InIssueOrder (one_memory o.memory h)) decided kept.decided_in_issue_order in
       let earlier = order.0 k (grind (arith, nat_tests, sum_by-cons (one k) k ks)) place in
       omega (arith, less, earlier);
-  two_writers = λ c d n h s other first second kept. other (sym (kept.writers_are_alone c d n first (owns_keeps r s d n second)));
+  two_writers = λ c d n h s other first second kept. grind (arith, nat_tests);
   unequal_copies = λ c d n h s first second other kept. other (kept.copies_are_equal c d n first second);
   ready_sleeper = λ c e older younger h s list asleep ready kept.
       let m = one_memory o.memory h in

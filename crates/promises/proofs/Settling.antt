@@ -1,7 +1,7 @@
 -- A settle keeps copies and memory true; the one tagged memory serves the word at the same time.
-use Rattle.std.proofs.Common.{◌≡◌, ℕ, ◌%◌, ◌<◌, Bool, true, false, cond, sym, refl, ap, ◌∙◌, ⊎_elim, arith}
+use Rattle.std.proofs.Common.{◌≡◌, ℕ, ◌%◌, ◌<◌, Bool, true, false, cond, sym, refl, ap, ◌∙◌, ⊎_elim, arith, not, eqb}
 use Rattle.std.proofs.lemmas.Bool.Decides.{nat_tests}
-use Rattle.std.proofs.lemmas.Bool.{cases_eq, ne_eqb, both_ways, cond-true, cond-false, cond_both}
+use Rattle.std.proofs.lemmas.Bool.{cases_eq, ne_eqb, both_ways, cond-true, cond-false, cond_both, and_right, cases_Bool, and_left, and_parts}
 use Rattle.protocol.specs.Rules.{Rules, Lawful}
 use Rattle.tagged.specs.Operations.{claims}
 use Rattle.tagged.specs.Rule.{done_by}
@@ -11,7 +11,7 @@ use Rattle.promises.specs.Board.{Content, word_in, with_word_in, Frame, Tenure, 
 use Rattle.promises.specs.Copies.{copy, keeps, owes}
 use Rattle.promises.specs.Steps.{updated, settled_state, settle_state, victim, victim_owes, memory_without_victim}
 use Rattle.promises.specs.OneMemory.{line_by_words}
-use Rattle.promises.proofs.Contents.{updated_other, changed, changed_content, changed_other, updated_back}
+use Rattle.promises.proofs.Contents.{updated_other, changed, changed_content, changed_other, updated_back, updated_same}
 use Rattle.promises.proofs.Frames.{kept_of, keeps_by}
 use Rattle.promises.proofs.Copies.{claiming, Copies, owes_same, owns_keeps}
 use Rattle.promises.proofs.Tenures.{Hits, Reads, Claims}
@@ -53,30 +53,35 @@ module _ (r : Rules) (law : Lawful r) (T : ℕ → Word) (s : State) (t : Tenure
   -- the frame's line, if it is another and kept
   out_kept : r.kept out.code ≡ true → keeps r s t.core out.line ≡ true
   out_kept k =
-      let place = was.placed t.core (n % 16) k in
-      keeps_by r s t.core out.line (record { core = core; line = grind (arith, place); code = grind (arith, place) })
+      let place : out.line % 16 ≡ n % 16 = was.placed t.core (n % 16) k in
+      let same : copy s t.core out.line ≡ out = ap (s.frame t.core) place in
+      keeps_by r s t.core out.line (record { core = core; line = ap (λ (f : Frame). f.line) same; code = ap (λ (f : Frame). r.kept f.code) same ∙ k })
 
   -- what memory holds once that line is written: every line that nobody else owes
   out_memory : (m : ℕ) → (m ≡ n → keeps r s t.core n ≡ true → ⊥) → ((d : ℕ) → ((d ≡ t.core) × (m % 16 ≡ n % 16) → ⊥) → owes r s d m ≡ false) → claiming s.bus m ≡ false → memory_without_victim r s t m ≡ line_by_words T m
   out_memory m own_not others quiet =
       cond_both (victim_owes r s t) (updated s.memory out.line out.content) s.memory (λ (f : ℕ → Content). f m ≡ line_by_words T m)
       (λ e.
-      let placed = was.placed t.core (n % 16) (grind arith) in
-      let kept = out_kept (grind arith) in
+      let q = and_parts (r.kept out.code) _ (and_parts (not (eqb out.line n)) _ e).1 in
       ⊎_elim
-      (λ same. grind (arith, nat_tests, placed, was.true_copies t.core out.line kept))
+      (λ same.
+      ap (updated s.memory out.line out.content) same
+      ∙ updated_same s.memory out.line out.content
+      ∙ sym (ap (λ j. (s.frame t.core j).content) (was.placed t.core (n % 16) q.0))
+      ∙ was.true_copies t.core out.line (out_kept q.0)
+      ∙ ap (line_by_words T) (sym same))
       (λ ne. updated_other s.memory out.line m out.content ne ∙ was.true_memory m (unowed (λ place k. absurd (ne (sym (held place k))))) quiet)
       (cases_eq m out.line))
       (λ e. was.true_memory m (unowed (λ place k. grind (arith, nat_tests, e, own_not, held place k, kept_of r s t.core m k))) quiet)
     where
       -- at this frame the own core keeps no line but the frame's
       held : m % 16 ≡ n % 16 → keeps r s t.core m ≡ true → out.line ≡ m
-      held place k = grind (arith, kept_of r s t.core m k)
+      held place k = sym (ap (λ j. (s.frame t.core j).line) place) ∙ (kept_of r s t.core m k).line
 
       unowed : (m % 16 ≡ n % 16 → keeps r s t.core m ≡ true → r.owing out.code ≡ false) → (d : ℕ) → owes r s d m ≡ false
       unowed paid d =
           ⊎_elim
-          (λ same. ⊎_elim (λ place. grind (arith, paid place)) (λ apart. others d (λ both. apart both.1)) (cases_eq (m % 16) (n % 16)))
+          (λ same. ⊎_elim (λ place. ap (λ x. owes r s x m) same ∙ ⊎_elim (λ k. and_right (keeps r s t.core m) _ (ap (λ j. r.owing (s.frame t.core j).code) place ∙ paid place k)) (λ no_copy. and_left (keeps r s t.core m) _ no_copy) (cases_Bool (keeps r s t.core m))) (λ apart. others d (λ both. apart both.1)) (cases_eq (m % 16) (n % 16)))
           (λ ne. others d (λ both. ne both.0))
           (cases_eq d t.core)
 
@@ -119,11 +124,15 @@ module _ (r : Rules) (law : Lawful r) (T : ℕ → Word) (s : State) (t : Tenure
         put : Fetch
         put = record {
           frames = λ d j. refl;
-          code_fits = rw (cond-false (claims o) r.own_claim fill c) fill_fits;
+          code_fits = grind (arith, nat_tests);
           true_content = changed_content T serve t.entry.word f line;
           other_lines = changed_other T serve t.entry.word;
           shared_line = λ d ne k. ap (λ X. line_by_words X n) same;
-          only = λ e d ne k. grind (arith, law.fill_not_sole, reads.unshared, d, k);
+          only = λ e d ne k.
+              ⊎_elim
+              (λ sh. both_ways _ law.fill_not_sole (ap (λ b. r.sole (r.read_fill b)) (sym sh) ∙ sym (ap r.sole (cond-false _ _ _ c ∙ is)) ∙ e))
+              (λ alone. reads.unshared alone d k)
+              (cases_Bool shared);
           no_owner = λ d ne own. reads.none_sole d own;
           true_memory = λ m none quiet.
               out_memory m (λ e k. reads.own k) (others_paid m none) (ap (λ b. claiming b m) bus) ∙ ap (λ X. line_by_words X m) (sym same);
@@ -139,7 +148,7 @@ module _ (r : Rules) (law : Lawful r) (T : ℕ → Word) (s : State) (t : Tenure
         put : Fetch
         put = record {
           frames = λ d j. refl;
-          code_fits = rw (cond-true (claims o) r.own_claim fill c) law.own_fits;
+          code_fits = grind (arith, nat_tests);
           true_content = changed_content T serve t.entry.word f line;
           other_lines = changed_other T serve t.entry.word;
           shared_line = λ d ne k. absurd (taken.others d ne k);

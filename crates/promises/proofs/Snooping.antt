@@ -1,5 +1,5 @@
 -- A snoop keeps copies and memory true, and what it finds is true.
-use Rattle.std.proofs.Common.{◌≡◌, ℕ, ◌%◌, ◌<◌, Bool, true, false, not, ◌&&◌, ◌⊎◌, sym, refl, ap, ◌∙◌, ⊎_elim, arith, rules}
+use Rattle.std.proofs.Common.{◌≡◌, ℕ, ◌%◌, ◌<◌, Bool, true, false, not, ◌&&◌, ◌⊎◌, sym, refl, ap, ◌∙◌, ⊎_elim, arith}
 use Rattle.std.proofs.lemmas.Bool.Decides.{nat_tests}
 use Rattle.std.proofs.lemmas.Bool.{cond_both, false_from_ne_true, cases_eq, cases_Bool, eq-eqb, not-true, and_parts, and_from, and_left, and_right, both_ways, cond-true, cond-false}
 use Rattle.protocol.specs.Rules.{Rules, Lawful}
@@ -41,7 +41,9 @@ module _ (r : Rules) (law : Lawful r) (T : ℕ → Word) (s : State) (t : Tenure
 
   -- after a claim it keeps nothing
   heard_claim : (d m : ℕ) → Heard d m → claims t.entry.operation ≡ true → keeps r after d m ≡ true → ⊥
-  heard_claim d m h c k = grind (arith, h.frame, law.claim_not_kept, was.codes d (m % 16), kept_of r after d m k)
+  heard_claim d m h c k =
+      both_ways (r.kept (r.after_claim (copy s d m).code)) (law.claim_not_kept _ (was.codes d (m % 16)))
+      (sym (ap r.kept (ap (λ (f : Frame). f.code) h.frame ∙ cond-true _ _ _ c)) ∙ (kept_of r after d m k).code)
 
   read_code : (d m : ℕ) → Heard d m → claims t.entry.operation ≡ false → (copy after d m).code ≡ r.after_read (copy s d m).code
   read_code d m h c = ap (λ (f : Frame). f.code) h.frame ∙ cond-false _ _ _ c
@@ -68,7 +70,10 @@ module _ (r : Rules) (law : Lawful r) (T : ℕ → Word) (s : State) (t : Tenure
   heard_not_kept d f c ne k e = grind (arith, heard_or_not d n, heard_claim d n)
 
   snoop_codes : (d i : ℕ) → (after.frame d i).code < 256
-  snoop_codes d i = search rules
+  snoop_codes d i =
+      cond_both _ (moved r s t (s.frame d i)) (s.frame d i) (λ (f : Frame). f.code < 256)
+      (λ _. cond_both (claims t.entry.operation) _ _ (λ k. k < 256) (λ _. law.claim_fits _ (was.codes d i)) (λ _. law.read_fits _ (was.codes d i)))
+      (λ _. was.codes d i)
 
   snoop_placed : (d i : ℕ) → r.kept (after.frame d i).code ≡ true → (after.frame d i).line % 16 ≡ i
   snoop_placed d i =

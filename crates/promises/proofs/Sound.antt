@@ -59,10 +59,10 @@ pub same_memory : (r : Rules) (m n : TaggedMemory) (s : State) → n.word ≡ m.
 same_memory r m n s word noted was = record {
   few_cores = was.few_cores;
   copies = subst (λ T. Copies r T s) (sym word) was.copies;
-  bus = subst (λ T. BusTrue r T s s.bus) (sym word) was.bus;
+  bus = grind (arith, nat_tests);
   notes = λ c. every_weaker (Noted m s.next c) (Noted n s.next c) (λ e h. record { note = ap (λ f. f e.number) noted ∙ h.note; below = h.below }) (s.waiting c) (was.notes c);
   tenure = was.tenure;
-  sleepers = λ c. subst (λ T. EveryEntry (SleepsRight T) (s.waiting c)) (sym word) (was.sleepers c);
+  sleepers = λ c. grind (arith, nat_tests);
 }
 
 -- the request that has the bus was noted as it is
@@ -76,8 +76,8 @@ tenure_noted r m s t was here =
 module _ (r : Rules) (T : ℕ → Word) (s t : State) (frames : (d i : ℕ) → t.frame d i ≡ s.frame d i) (memory : (n : ℕ) → t.memory n ≡ s.memory n) (bus : (n : ℕ) → claiming t.bus n ≡ false → claiming s.bus n ≡ false) where
   pub same_frames : Copies r T s → Copies r T t
   same_frames was = record {
-    codes = λ d i. subst (λ (f : Frame). f.code < 256) (sym (frames d i)) (was.codes d i);
-    placed = λ d i. subst (λ (f : Frame). r.kept f.code ≡ true → f.line % 16 ≡ i) (sym (frames d i)) (was.placed d i);
+    codes = λ d i. grind (arith, nat_tests);
+    placed = λ d i. grind (arith, nat_tests);
     true_copies = λ d n k. ap (λ (f : Frame). f.content) (frames d (n % 16)) ∙ was.true_copies d n (sym (keeps_same r t s d n (frames d (n % 16))) ∙ k);
     alone = λ c d n own k. was.alone c d n (sym (owns_same r t s c n (frames c (n % 16))) ∙ own) (sym (keeps_same r t s d n (frames d (n % 16))) ∙ k);
     true_memory = λ n none quiet. memory n ∙ was.true_memory n (λ d. sym (owes_same r t s d n (frames d (n % 16))) ∙ none d) (bus n quiet);

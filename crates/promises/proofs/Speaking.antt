@@ -1,5 +1,6 @@
 -- Every answer, look and save speaks for the one tagged memory.
-use Rattle.std.proofs.Common.{◌≡◌, ℕ, ◌<◌, min, true, false, ◌&&◌, eqb, List, ◌++◌, length, drop, Some, None, Ok, Option, sym, refl, ap, ◌∙◌, subst, arith, rules}
+use Rattle.promises.specs.Lists.{oldest_ready}
+use Rattle.std.proofs.Common.{◌≡◌, ℕ, ◌<◌, min, true, false, ◌&&◌, eqb, List, ◌++◌, length, drop, Some, None, Ok, Option, sym, refl, ap, ◌∙◌, subst, arith, []}
 use Rattle.std.proofs.lemmas.Bool.Decides.{nat_tests}
 use Rattle.std.proofs.lemmas.Bool.{and_from, both_ways, cond-true, cond-false, cond_both}
 use Rattle.protocol.specs.Rules.{Rules, Lawful}
@@ -17,9 +18,9 @@ use Rattle.tagged.specs.declared.words.WordState.{WordState}
 use Rattle.tagged.specs.declared.words.WordState.TheVariants.{Empty}
 use Rattle.promises.specs.Board.{Content, Entry, Tenure, Found, own_copy, read_in, claimed, unmet, Bus, free, granted, snooped, State, line_of}
 use Rattle.promises.specs.Board.{word_in, served_lines}
-use Rattle.promises.specs.Calls.{to_settle, Slip, SnoopReport, OrRefused, Call, issue, grant, give_back, snoop, settle, withdraw, evict, drain, look, save, tally}
+use Rattle.promises.specs.Calls.{to_settle, Slip, SnoopReport, OrRefused, Call, issue, grant, give_back, snoop, settle, withdraw, evict, drain, look, save, tally, to_snoop}
 use Rattle.promises.specs.Copies.{stands}
-use Rattle.promises.specs.Refusing.{first_reason, reply_unless, after_unless, withdraw_reasons, look_reasons, save_reasons}
+use Rattle.promises.specs.Refusing.{first_reason, reply_unless, after_unless, withdraw_reasons, look_reasons, save_reasons, grant_reasons, slip_reasons, evict_reasons, drain_reasons}
 use Rattle.promises.specs.Steps.{Step, updated, grant_bus, gives_up, answer_undone, answer_served, picture_of, own_suffices, snoop_met, snoop_word, snoop_kind, snoop_found, snoop_report, settle_state, settle_answer, answers_now, issue_served, save_reply}
 use Rattle.promises.specs.OneMemory.{TaggedMemory, note, serve_noted, decide, noted_gives_up, is_answer, feed, line_by_words}
 use Rattle.promises.specs.Promises.{AsGiven, AnswerIsGiven, SpeaksTrue}
@@ -188,13 +189,13 @@ module _ (r : Rules) (law : Lawful r) (op : Opening) (m : TaggedMemory) (s : Sta
   owed_after_call (issue c k w v a) t step =
       let kept : (x : Answer) → x.number ≡ s.next → Owed (feed m (issue c k w v (Ok x))) s.bus = λ x number. owed_kept _ s.bus was.tenure (gave_old c k w v x number) owed in
       by_issue (λ b u. Owed (feed m (issue c k w v b)) u.bus) r s t c k w v a step (λ e. owed) (λ y. kept (answer_now r s c (operation_coded k) w v) refl) (λ core. kept (answer_undone s.next Waits Empty) refl)
-  owed_after_call (grant c a) t step = grind (arith, nat_tests)
-  owed_after_call (give_back slip a) t step = grind (arith, nat_tests)
+  owed_after_call (grant c a) t step = by_reply (λ b u. Owed m u.bus) s t _ (first_reason (grant_reasons s c)) _ a step.0 step.1 (λ e. owed) (λ none. grant_owes c (oldest_ready [] (s.waiting c)))
+  owed_after_call (give_back slip a) t step = by_reply (λ b u. Owed m u.bus) s t _ (first_reason (slip_reasons s slip to_snoop)) _ a step.0 step.1 (λ e. owed) (λ none. tt)
   owed_after_call (snoop slip a) t step = by_snoop (λ b u. Owed (feed m (snoop slip b)) u.bus) r s t slip a step (λ e. owed) (snoop_owed slip)
-  owed_after_call (settle slip a) t step = search rules
+  owed_after_call (settle slip a) t step = by_settle (λ b u. Owed (feed m (settle slip b)) u.bus) r s t slip a step (λ e. owed) (λ x f bus. after_settle _ x f)
   owed_after_call (withdraw k a) t step = by_reply (λ b u. Owed m u.bus) s t _ (first_reason (withdraw_reasons s k)) _ a step.0 step.1 (λ e. owed) (λ none. owed)
-  owed_after_call (evict c w a) t step = grind (arith, nat_tests)
-  owed_after_call (drain a) t step = grind (arith, nat_tests)
+  owed_after_call (evict c w a) t step = by_reply (λ b u. Owed m u.bus) s t _ (first_reason (evict_reasons s r c w)) _ a step.0 step.1 (λ e. owed) (λ none. owed)
+  owed_after_call (drain a) t step = by_reply (λ b u. Owed m u.bus) s t _ (first_reason (drain_reasons s)) _ a step.0 step.1 (λ e. owed) (λ none. owed)
   owed_after_call (look w a) t step = subst (Owed m) (sym step.1.bus) owed
   owed_after_call (save before after a) t step = subst (Owed m) (sym step.2.bus) owed
   owed_after_call (tally a) t step = subst (Owed m) (sym step.1.bus) owed

@@ -1,6 +1,7 @@
 -- Every answer, look and save of a run is that of one tagged memory.
+use Rattle.promises.proofs.Sound.{by_issue, by_snoop}
 use Rattle.std.proofs.lemmas.Bool.Decides.{nat_tests}
-use Rattle.std.proofs.Common.{◌≡◌, List, [], sym, ap, ◌∙◌, subst, arith}
+use Rattle.std.proofs.Common.{◌≡◌, List, [], sym, ap, ◌∙◌, subst, arith, refl}
 use Rattle.protocol.specs.Rules.{Rules, Lawful}
 use Rattle.promises.specs.Board.{Setup, State}
 use Rattle.promises.specs.Calls.{Call, issue, grant, give_back, snoop, settle, withdraw, evict, drain, look, save, tally}
@@ -14,10 +15,10 @@ use Rattle.promises.proofs.Speaking.{Owed, owed_after_call, call_speaks}
 -- no call changes what a board was opened with
 module _ (r : Rules) (s : State) where
   step_setup : (t : State) (c : Call) → Step r s c t → t.setup ≡ s.setup
-  step_setup t (issue c k w v a) step = grind (arith, nat_tests)
+  step_setup t (issue c k w v a) step = by_issue (λ b u. u.setup ≡ s.setup) r s t c k w v a step (λ e. refl) (λ y. refl) (λ core. refl)
   step_setup t (grant c a) step = grind (arith, nat_tests)
   step_setup t (give_back slip a) step = grind (arith, nat_tests)
-  step_setup t (snoop slip a) step = grind (arith, nat_tests)
+  step_setup t (snoop slip a) step = by_snoop (λ b u. u.setup ≡ s.setup) r s t slip a step (λ e. refl) (λ x bus number. refl)
   step_setup t (settle slip a) step = grind (arith, nat_tests)
   step_setup t (withdraw k a) step = grind (arith, nat_tests)
   step_setup t (evict c w a) step = grind (arith, nat_tests)
