@@ -75,6 +75,7 @@ fn compare(rt: &impl Abort, rows: &[Row], state: WordState) -> Result<(), Fail> 
     Ok(())
 }
 
+// A test for each table, so that a failure names it.
 #[test]
 fn full_word_follows_the_table(rt: HostRuntime) -> Result<(), Fail> {
     compare(&rt, &ON_A_FULL_WORD, WordState::Full)
