@@ -1,8 +1,9 @@
 -- A memory as bytes: the picture of a list of lines, and the lines of a picture.
-use Rattle.std.specs.Prelude.{◌≡◌, ℕ, ◌+◌, ◌*◌, ◌/◌, ◌%◌, ◌^◌, ◌<◌, ◌≤◌, min, cond, ◌⊎◌, List, [], ◌∷◌, ◌++◌, map, length, get_or, ◌==◌, ◌≢◌, slice_index, slice_index_or, slice_set}
+use Rattle.std.specs.Prelude.{◌≡◌, ℕ, ◌+◌, ◌*◌, ◌/◌, ◌%◌, ◌^◌, ◌<◌, ◌≤◌, min, cond, ◌⊎◌, List, [], ◌∷◌, ◌++◌, map, length, get_or, ◌==◌, ◌≢◌, slice_index, slice_index_or, slice_set, codes, decimal}
 use Rattle.std.specs.List.{range_with_len, flat_map}
 use Rattle.memory.specs.declared.pictures.PictureFault.{PictureFault}
 use Rattle.memory.specs.declared.pictures.PictureFault.TheVariants.{Header, Length, State}
+use Rattle.tagged.specs.Refusals.{shown_refusal}
 use Rattle.tagged.specs.Words.{state_number}
 use Rattle.tagged.specs.declared.refusals.Refusal.{Refusal}
 use Rattle.tagged.specs.declared.refusals.Refusal.TheVariants.{PictureHeader, PictureLength, PictureState}
@@ -123,3 +124,7 @@ abbrev pub fault_place : PictureFault → ℕ
 fault_place Header = 0
 fault_place (Length place) = place
 fault_place (State place) = place
+
+-- what is said of bytes that are no picture
+abbrev pub shown_picture_fault : PictureFault → List ℕ
+shown_picture_fault fault = codes "at byte " ++ (decimal (fault_place fault) ++ (codes ": " ++ shown_refusal (fault_refusal fault)))

@@ -1,9 +1,10 @@
 // A memory as bytes: the check of a picture, and reading and writing one line of it.
-ghost use Rattle.std.specs.Prelude.{◌≡◌, ℕ, ◌+◌, ◌<◌, ◌≤◌, List, ◌++◌, length, drop, replicate, IfOk, MatchResult, OnOk, slice_index, slice_set};
+ghost use Rattle.std.specs.Prelude.{◌≡◌, ℕ, ◌+◌, ◌<◌, ◌≤◌, List, ◌++◌, length, drop, replicate, IfOk, MatchResult, OnOk, Some, slice_index, slice_set};
 ghost use Rattle.tagged.specs.Words.{blank};
-ghost use Rattle.memory.specs.Pictures.{number_at, state_byte, state_from, picture_length, values_from, state_place, line_count, line_at, lines_at, picture, PutsNumber, PutsLine, PutsInPicture, Room, Proper, Sound, Faulty, fault_refusal, fault_place};
+ghost use Rattle.memory.specs.Pictures.{number_at, state_byte, state_from, picture_length, values_from, state_place, line_count, line_at, lines_at, picture, PutsNumber, PutsLine, PutsInPicture, Room, Proper, Sound, Faulty, fault_refusal, fault_place, shown_picture_fault};
 
-use std::array;
+use std::error::Error;
+use std::{array, fmt};
 use tagged::refusals::Refusal;
 use tagged::words::{Line, WordState};
 
@@ -28,6 +29,19 @@ impl PictureFault {
         }
     }
 }
+
+// By hand, since a derived one would have no contract on its text.
+impl fmt::Display for PictureFault {
+    ghost output = { λ fault. Some (shown_picture_fault fault) };
+
+    fn fmt<W: fmt::Write>(&self, f: &mut fmt::Formatter<W>) -> fmt::Result {
+        let place = self.place();
+        let refusal = Refusal::from(*self);
+        write!(f, "at byte {place}: {refusal}")
+    }
+}
+
+impl Error for PictureFault {}
 
 impl From<PictureFault> for Refusal {
     ghost from_gives = { λ fault refusal. refusal ≡ fault_refusal fault };

@@ -1,6 +1,6 @@
 -- What was carried out: each face with its tolerance and the two requests that brought it.
 use Rattle.std.specs.Prelude.{◌≡◌, ℕ, ◌+◌, Bool, true, false, List, [], ◌∷◌, ◌++◌, map, codes, decimal}
-use Rattle.tagged.specs.Refusals.{refusal_number}
+use Rattle.tagged.specs.Refusals.{shown_refusal}
 use Rattle.mould.specs.declared.exchange.Fault.{Fault}
 use Rattle.mould.specs.declared.exchange.Fault.TheVariants.{NoMemory, Rejected}
 use Rattle.mould.specs.declared.exchange.Handed.{Handed}
@@ -36,4 +36,4 @@ shown_totals t = decimal t.faces ++ (codes " faces, " ++ (decimal t.requests ++ 
 -- what is said of a hand-over that ended early
 abbrev pub shown_fault : Fault → List ℕ
 shown_fault NoMemory = codes "there is not enough memory"
-shown_fault (Rejected refusal) = codes "a request was refused with number " ++ decimal (refusal_number refusal)
+shown_fault (Rejected refusal) = codes "a request was " ++ shown_refusal refusal

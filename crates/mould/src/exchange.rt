@@ -90,10 +90,7 @@ impl fmt::Display for Fault {
     fn fmt<W: fmt::Write>(&self, f: &mut fmt::Formatter<W>) -> fmt::Result {
         match self {
             Fault::NoMemory => write!(f, "there is not enough memory"),
-            Fault::Rejected(refusal) => {
-                let number = u8::from(*refusal);
-                write!(f, "a request was refused with number {number}")
-            }
+            Fault::Rejected(refusal) => write!(f, "a request was {refusal}"),
         }
     }
 }

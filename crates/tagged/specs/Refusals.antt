@@ -1,5 +1,5 @@
--- The refusals' numbers.
-use Rattle.std.specs.Prelude.{ℕ}
+-- The refusals' numbers, and what is said of a refusal.
+use Rattle.std.specs.Prelude.{ℕ, List, ◌++◌, codes, decimal}
 use Rattle.tagged.specs.declared.refusals.Refusal.{Refusal}
 use Rattle.tagged.specs.declared.refusals.Refusal.TheVariants.{NoSuchCore, NoSuchOperation, WordNotServed, NumbersUsedUp, ListFull, BusGiven, NothingReady, NotThisTenure, NotWaiting, HasTheBus, LineNotKept, BusGivenForLine, CoresUnfit, FirstNumberZero, PictureHeader, PictureLength, PictureState, NoRoomToSave}
 
@@ -22,3 +22,7 @@ refusal_number PictureHeader = 15
 refusal_number PictureLength = 16
 refusal_number PictureState = 17
 refusal_number NoRoomToSave = 18
+
+-- what is said of a refusal
+abbrev pub shown_refusal : Refusal → List ℕ
+shown_refusal refusal = codes "refused with number " ++ decimal (refusal_number refusal)

@@ -1,6 +1,9 @@
 // Why a call is refused. Of two reasons the one with the smaller number is returned.
-ghost use Rattle.std.specs.Prelude.{◌≡◌};
-ghost use Rattle.tagged.specs.Refusals.{refusal_number};
+ghost use Rattle.std.specs.Prelude.{◌≡◌, Some};
+ghost use Rattle.tagged.specs.Refusals.{refusal_number, shown_refusal};
+
+use std::error::Error;
+use std::fmt;
 
 #[derive(Clone, Copy, Debug, PartialEq, Eq)]
 pub enum Refusal {
@@ -49,3 +52,14 @@ impl From<Refusal> for u8 {
         refusal as u8
     }
 }
+
+// By hand, since a derived one would have no contract on its text.
+impl fmt::Display for Refusal {
+    ghost output = { λ refusal. Some (shown_refusal refusal) };
+
+    fn fmt<W: fmt::Write>(&self, f: &mut fmt::Formatter<W>) -> fmt::Result {
+        write!(f, "refused with number {}", u8::from(*self))
+    }
+}
+
+impl Error for Refusal {}
