@@ -60,7 +60,6 @@ pub fn check_picture(bytes: &[u8]) -> Result<u32, PictureFault>
     ensures cases { MatchResult result (λ n. Sound bytes.now × (n ≡ line_count bytes.now)) (Faulty bytes.now) }
     ensures same_bytes { IfOk result (λ n. picture (lines_at n bytes.now) ≡ bytes.now) }
 {
-    // Two tests with one refusal: as one, over the first four bytes as an array, three goals stay open.
     if bytes.len() < 4 {
         return Err(PictureFault::Header);
     }

@@ -97,8 +97,8 @@ impl fmt::Display for Fault {
 
 impl Error for Fault {}
 
-// By `?` a `collect` gives an `AllocError` and a `push` an `AllocFailed`. One generic impl for both was tried: it overlaps
-// with `From<Refusal>`.
+// By `?` a `collect` gives an `AllocError` and a `push` an `AllocFailed`. No one impl is plainer: a generic one overlaps with
+// `From<Refusal>`.
 impl From<AllocError> for Fault {
     ghost from_gives = { λ _ r. r ≡ NoMemory };
 

@@ -52,7 +52,7 @@ impl Totals {
     }
 }
 
-// Whether the tolerances were kept, in words.
+// Whether the tolerances were kept, in words. By hand: only the totals write a `bool` so.
 fn in_words(kept: bool) -> &'static str
     ensures { result.now ≡ shown_kept kept }
 {

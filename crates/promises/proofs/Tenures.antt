@@ -1,7 +1,7 @@
 -- What a snooped tenure has found stays true, and a settle keeps copies and memory true.
 use Rattle.std.proofs.lemmas.Bool.Decides.{nat_tests}
-use Rattle.std.proofs.Common.{◌≡◌, ℕ, Bool, true, false, not, eqb, sym, refl, ap, ◌∙◌, arith}
-use Rattle.std.proofs.lemmas.Bool.{ne_eqb, not_from_false, and_parts, and_from, and_left, both_ways, cond-false, cond_both}
+use Rattle.std.proofs.Common.{◌≡◌, ℕ, Bool, true, false, not, eqb, sym, refl, ap, ◌∙◌, arith, ◌%◌}
+use Rattle.std.proofs.lemmas.Bool.{ne_eqb, not_from_false, and_parts, and_from, and_left, both_ways, cond-false, cond_both, and_right, not_from_true, eq-eqb}
 use Rattle.protocol.specs.Rules.{Rules, Lawful}
 use Rattle.tagged.specs.Operations.{claims, class_of}
 use Rattle.tagged.specs.Rule.{met, unmet_outcome}
@@ -107,6 +107,10 @@ module _ (r : Rules) (law : Lawful r) (T : ℕ → Word) (s : State) (t : Tenure
   hits e f =
       let same = still f t.core n in
       record { kept = grind (arith, keeps_same r after s t.core n same); sole = λ c. grind arith }
+
+  -- the requester's own frame does not move
+  own_still : (m : ℕ) → copy after t.core m ≡ copy s t.core m
+  own_still m = cond-false _ _ _ (and_right (fetches r s t) _ (and_right (eqb (m % 16) (n % 16)) _ (and_left (not (eqb t.core t.core)) _ (not_from_true _ (eq-eqb t.core t.core refl)))))
 
   reads : fetches r s t ≡ true → claims t.entry.operation ≡ false → Reads r T after t (any_core (others_keep r s t.core n)) (supplied r s n (s.memory n))
   reads f c =

@@ -7,8 +7,8 @@ ghost use Rattle.protocol.specs.Rules.{Rules, Lawful};
 pub mod standards;
 
 // A protocol gives meaning to the state code of a copy: a byte and no enum, since the codes are the protocol's own, and the
-// board hands them on as bytes (docs/PROTOCOLS.md). A copy is kept if it may be read, sole if it may be written, and owing if memory need not have it yet.
-// Asking changes nothing.
+// board hands them on as bytes (docs/PROTOCOLS.md). A copy is kept if it may be read, sole if it may be written, and owing
+// if memory need not have it yet. Asking changes nothing.
 pub trait Protocol {
     ghost rules: { Self → Rules };
 

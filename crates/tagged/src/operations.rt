@@ -195,7 +195,7 @@ impl TryFrom<&[u8]> for Operation {
     }
 }
 
-// The second letter of a name: A if the operation is altering, else N. By hand: only names write a `bool` so.
+// The second letter of a name: A if the operation is altering, else N. By hand, as `alters` is: only names write a `bool` so.
 fn alter_letter(altering: bool) -> u8
     ensures { result ≡ alter_letter altering }
 {
