@@ -1,5 +1,5 @@
 // A memory kept as a picture in a lent buffer.
-ghost use Rattle.std.specs.Prelude.{◌≡◌, ℕ, ◌≤◌, List, ◌++◌, length, slice_set};
+ghost use Rattle.std.specs.Prelude.{◌≡◌, ◌≤◌, slice_set};
 ghost use Rattle.memory.specs.Pictures.{Sound, line_count, lines_at, PutsInPicture};
 
 use crate::Memory;

@@ -1,5 +1,5 @@
 // A memory as bytes: the check of a picture, and reading and writing one line of it.
-ghost use Rattle.std.specs.Prelude.{◌≡◌, ℕ, ◌+◌, ◌<◌, ◌≤◌, List, ◌++◌, length, drop, replicate, IfOk, MatchResult, OnOk, Some, slice_index, slice_set};
+ghost use Rattle.std.specs.Prelude.{◌≡◌, ℕ, ◌+◌, ◌<◌, ◌≤◌, ◌++◌, length, drop, replicate, IfOk, MatchResult, OnOk, Some, slice_index};
 ghost use Rattle.tagged.specs.Words.{blank};
 ghost use Rattle.memory.specs.Pictures.{number_at, state_byte, state_from, picture_length, values_from, state_place, line_count, line_at, lines_at, picture, PutsNumber, PutsLine, PutsInPicture, Room, Proper, Sound, Faulty, fault_refusal, fault_place, shown_picture_fault};
 

@@ -8,7 +8,7 @@ use Rattle.tagged.specs.Rule.{done_by}
 use Rattle.tagged.specs.declared.operations.Operation.{Operation}
 use Rattle.tagged.specs.declared.words.Word.{Word}
 use Rattle.promises.specs.Board.{Content, word_in, with_word_in, Frame, Tenure, own_copy, read_in, claimed, snooped, State, line_of}
-use Rattle.promises.specs.Copies.{copy, keeps, owes}
+use Rattle.promises.specs.Copies.{copy, keeps, owns, owes}
 use Rattle.promises.specs.Steps.{updated, settled_state, settle_state, victim, victim_owes, memory_without_victim}
 use Rattle.promises.specs.OneMemory.{line_by_words}
 use Rattle.promises.proofs.Contents.{updated_other, changed, changed_content, changed_other, updated_back, updated_same}
@@ -105,6 +105,19 @@ module _ (r : Rules) (law : Lawful r) (T : ℕ → Word) (s : State) (t : Tenure
     abbrev Fetch : Type 0
     Fetch = Put r T T' s t.core n fetched_code fetched_content fetched_state
 
+    -- both kinds put the same in, and differ in what is known of the other copies and of memory
+    fetch : ((d : ℕ) → (d ≡ t.core → ⊥) → keeps r s d n ≡ true → line_by_words T' n ≡ line_by_words T n) → (r.sole fetched_code ≡ true → (d : ℕ) → (d ≡ t.core → ⊥) → keeps r s d n ≡ true → ⊥) → ((d : ℕ) → (d ≡ t.core → ⊥) → owns r s d n ≡ true → ⊥) → ((m : ℕ) → ((d : ℕ) → owes r fetched_state d m ≡ false) → claiming fetched_state.bus m ≡ false → fetched_state.memory m ≡ line_by_words T' m) → Fetch
+    fetch shared only unowned remembered = record {
+      frames = λ d j. refl;
+      code_fits = grind (arith, law.own_fits);
+      true_content = changed_content T serve t.entry.word f line;
+      other_lines = changed_other T serve t.entry.word;
+      shared_line = shared;
+      only = only;
+      no_owner = unowned;
+      true_memory = remembered;
+    }
+
     others_paid : (m : ℕ) → ((d : ℕ) → owes r fetched_state d m ≡ false) → (d : ℕ) → ((d ≡ t.core) × (m % 16 ≡ n % 16) → ⊥) → owes r s d m ≡ false
     others_paid m none d apart = sym (owes_same r fetched_state s d m (fetched_other d m apart)) ∙ none d
 
@@ -122,21 +135,15 @@ module _ (r : Rules) (law : Lawful r) (T : ℕ → Word) (s : State) (t : Tenure
         code = cond-false _ _ _ c ∙ is
 
         put : Fetch
-        put = record {
-          frames = λ d j. refl;
-          code_fits = grind (arith, nat_tests);
-          true_content = changed_content T serve t.entry.word f line;
-          other_lines = changed_other T serve t.entry.word;
-          shared_line = λ d ne k. ap (λ X. line_by_words X n) same;
-          only = λ e d ne k.
-              ⊎_elim
-              (λ sh. both_ways _ law.fill_not_sole (ap (λ b. r.sole (r.read_fill b)) (sym sh) ∙ sym (ap r.sole (cond-false _ _ _ c ∙ is)) ∙ e))
-              (λ alone. reads.unshared alone d k)
-              (cases_Bool shared);
-          no_owner = λ d ne own. reads.none_sole d own;
-          true_memory = λ m none quiet.
-              out_memory m (λ e k. reads.own k) (others_paid m none) (ap (λ b. claiming b m) bus) ∙ ap (λ X. line_by_words X m) (sym same);
-        }
+        put =
+            fetch (λ d ne k. ap (λ X. line_by_words X n) same)
+            (λ e d ne k.
+            ⊎_elim
+            (λ sh. both_ways _ law.fill_not_sole (ap (λ b. r.sole (r.read_fill b)) (sym sh) ∙ sym (ap r.sole code) ∙ e))
+            (λ alone. reads.unshared alone d k)
+            (cases_Bool shared))
+            (λ d ne own. reads.none_sole d own)
+            (λ m none quiet. out_memory m (λ e k. reads.own k) (others_paid m none) (ap (λ b. claiming b m) bus) ∙ ap (λ X. line_by_words X m) (sym same))
 
     -- KIND 2
     pub settle_claim : s.bus ≡ snooped t (claimed f) → Claims r T s t f → Copies r T' fetched_state
@@ -146,19 +153,12 @@ module _ (r : Rules) (law : Lawful r) (T : ℕ → Word) (s : State) (t : Tenure
         c = taken.claim
 
         put : Fetch
-        put = record {
-          frames = λ d j. refl;
-          code_fits = grind (arith, nat_tests);
-          true_content = changed_content T serve t.entry.word f line;
-          other_lines = changed_other T serve t.entry.word;
-          shared_line = λ d ne k. absurd (taken.others d ne k);
-          only = λ e d ne k. taken.others d ne k;
-          no_owner = λ d ne own. taken.others d ne (owns_keeps r s d n own);
-          true_memory = λ m none quiet.
-              ⊎_elim
-              (λ e. absurd (both_ways _ (none t.core) (ap (owes r fetched_state t.core) e ∙ claim_owes r law fetched_state t.core n fetched_content core (fetched_frame ∙ ap (λ k. record { code = k; line = n; content = fetched_content }) (cond-true _ _ _ c)))))
-              (λ ne.
-              out_memory m (λ e k. ne e) (others_paid m none) (ap (λ b. claiming b m) bus ∙ ne_eqb n m (λ e. ne (sym e)))
-              ∙ sym (changed_other T serve t.entry.word m ne))
-              (cases_eq m n);
-        }
+        put =
+            fetch (λ d ne k. absurd (taken.others d ne k)) (λ e d ne k. taken.others d ne k) (λ d ne own. taken.others d ne (owns_keeps r s d n own))
+            (λ m none quiet.
+            ⊎_elim
+            (λ e. absurd (both_ways _ (none t.core) (ap (owes r fetched_state t.core) e ∙ claim_owes r law fetched_state t.core n fetched_content core (fetched_frame ∙ ap (λ k. record { code = k; line = n; content = fetched_content }) (cond-true _ _ _ c)))))
+            (λ ne.
+            out_memory m (λ e k. ne e) (others_paid m none) (ap (λ b. claiming b m) bus ∙ ne_eqb n m (λ e. ne (sym e)))
+            ∙ sym (changed_other T serve t.entry.word m ne))
+            (cases_eq m n))

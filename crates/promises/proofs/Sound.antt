@@ -138,7 +138,7 @@ by_snoop P r s t slip a step refused served = by s.bus refl step.0 step.1
     by : (b : Bus) → s.bus ≡ b → a ≡ snoop_on r s slip b → Agree t (snoop_to r s slip b) → P a t
     by free bus is agree = unserved P s t slip to_snoop free _ a bus refl is agree refused
     by (granted x) bus is agree =
-        by_reply P s t (snoop_state r s x) _ _ a is agree refused (λ none. served x bus (grind (arith, nat_tests, at_bus s slip to_snoop none, bus)))
+        by_reply P s t (snoop_state r s x) (first_reason (slip_reasons s slip to_snoop)) _ a is agree refused (λ none. served x bus (grind (arith, nat_tests, at_bus s slip to_snoop none, bus)))
     by (snooped x f) bus is agree = unserved P s t slip to_snoop (snooped x f) _ a bus refl is agree refused
 
 -- a settle, by whether it is refused

@@ -1,6 +1,6 @@
 // The seventeen operations on a word, with their codes and names.
 ghost use Rattle.std.specs.Prelude.{◌≡◌, ◌≢◌, ◌<◌, Bool, Some, MatchOption, codes};
-ghost use Rattle.tagged.specs.Operations.{class_of, altering, claims, reads, condition, class_number, class_letter, alter_letter, code_of, name_of, Decodes, ReadsName};
+ghost use Rattle.tagged.specs.Operations.{class_of, altering, claims, reads, condition, class_letter, alter_letter, code_of, name_of, Decodes, ReadsName};
 
 use crate::refusals::Refusal;
 use crate::words::WordState;
