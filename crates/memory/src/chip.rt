@@ -27,12 +27,7 @@ impl Chip {
 }
 
 impl Memory for Chip {
-    ghost use Rattle.std.proofs.Common.{lit≤};
-    ghost use Rattle.std.proofs.Math.Nat.{le_of_eq, le_trans};
-
     ghost lines = { λ m. m.lines };
-
-    ghost few = { λ m. le_trans (le_of_eq m.sized) (lit≤ tt) };
 
     fn line_count(&self) -> u32 {
         self.lines.len() as u32

@@ -29,14 +29,7 @@ impl<'a> Picture<'a> {
 
 #[tactic(auto, using(crate::proofs::Places::lines_read))]
 impl Memory for Picture<'_> {
-    ghost use Rattle.std.proofs.Common.{lit≤};
-    ghost use Rattle.std.proofs.Math.Nat.{le_of_eq, le_trans};
-    ghost use Rattle.std.proofs.lemmas.List.FromFn.{length-map-range_with_len};
-    ghost use Rattle.memory.specs.Pictures.{line_at};
-
     ghost lines = { λ m. lines_at m.front.count m.front.bytes.now };
-
-    ghost few = { λ m. le_trans (le_of_eq (length-map-range_with_len (line_at m.front.count m.front.bytes.now) 0 m.front.count)) (le_trans m.few (lit≤ tt)) };
 
     fn line_count(&self) -> u32 {
         self.front.count

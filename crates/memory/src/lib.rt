@@ -26,6 +26,4 @@ pub trait Memory {
     // Replaces line `n` and no other; past the end nothing changes.
     fn write(&mut self, n: u32, line: Line)
         ensures { lines self.new ≡ slice_set (lines self.old) n line };
-
-    ghost few: { (m : Self) → length (lines m) ≤ 65536 };
 }

@@ -9,3 +9,5 @@ mod names;
 mod pictures;
 #[cfg(test)]
 mod table;
+#[cfg(test)]
+mod windows;
