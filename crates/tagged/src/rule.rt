@@ -43,26 +43,23 @@ impl Operation {
     fn done(self, word: Word, value: u32) -> Served
         ensures { result ≡ done_by self word value }
     {
-        let emptied = Word {
-            state: WordState::Empty,
-            ..word
+        let state = match self {
+            Operation::Read { altering: true, .. } | Operation::Clear => WordState::Empty,
+            Operation::Write { altering: true, .. } => WordState::Full,
+            Operation::Read { .. } | Operation::Write { .. } => word.state,
         };
-        let filled = Word {
-            value,
-            state: WordState::Full,
-        };
-        let after = match self {
-            Operation::Read { altering: true, .. } | Operation::Clear => emptied,
-            Operation::Read { .. } => word,
-            Operation::Write { altering: true, .. } => filled,
-            Operation::Write { .. } => Word { value, ..word },
+        // Value and state each by itself: a choice between whole words took twice the time of a hand-over.
+        let (answered, left) = match self {
+            Operation::Read { .. } => (word.value, word.value),
+            Operation::Write { .. } => (0, value),
+            Operation::Clear => (0, word.value),
         };
         Served {
             outcome: Outcome::Done,
-            value: if self.is_read() { word.value } else { 0 },
+            value: answered,
             found: word.state,
-            notice: notice_of(word.state, after.state),
-            word: after,
+            notice: notice_of(word.state, state),
+            word: Word { value: left, state },
         }
     }
 
