@@ -104,6 +104,10 @@ four_of xs d h = ext_get_or d _ xs (sym h) (λ k lt. grind (arith, common_steps)
 pub four_are : {X : Type 0} (xs : List X) (d a b c e : X) → length xs ≡ 4 → get_or xs 0 d ≡ a → get_or xs 1 d ≡ b → get_or xs 2 d ≡ c → get_or xs 3 d ≡ e → xs ≡ a ∷ b ∷ c ∷ e ∷ []
 four_are xs d a b c e long first second third fourth = sym (four_of xs d long) ∙ (λ i. first i ∷ second i ∷ third i ∷ fourth i ∷ [])
 
+-- four values that fit are all values that there are
+pub fits_from : (vs : List ℕ) → length vs ≡ 4 → get_or vs 0 0 < 2 ^ 32 → get_or vs 1 0 < 2 ^ 32 → get_or vs 2 0 < 2 ^ 32 → get_or vs 3 0 < 2 ^ 32 → (k : ℕ) → get_or vs k 0 < 2 ^ 32
+fits_from vs long a b c d k = grind (arith, common_steps)
+
 -- bytes that hold a line at place m of n read as that line
 pub line_from : (n : ℕ) (bs : List ℕ) (m : ℕ) (l : Line) → Proper l → ((w : ℕ) → w < 4 → number_at bs (values_from m + 4 * w) ≡ get_or (values_of l) w 0) → get_or bs (state_place n m) 0 ≡ state_byte l → line_at n bs m ≡ l
 line_from n bs m l p values state =
@@ -114,25 +118,26 @@ line_from n bs m l p values state =
       states = sym (four_are l.states Empty _ _ _ _ p.states (sym back.first) (sym back.second) (sym back.third) (sym back.fourth)) i;
     })
 
+-- line m of a picture is the line that it was made of
+pub line_back : (ls : List Line) (more : List ℕ) (d : Line) (m : ℕ) → m < length ls → Proper (get_or ls m d) → line_at (length ls) (picture ls ++ more) m ≡ get_or ls m d
+line_back ls more d m h proper =
+    line_from (length ls) (picture ls ++ more) m (get_or ls m d) proper
+    (λ w k. number_here (picture ls ++ more) (values_from m + 4 * w) _ (small w k) (λ i j. value_at ls more m w i d h k j))
+    (state_at ls more m d h)
+  where
+    small : (w : ℕ) → w < 4 → get_or (values_of (get_or ls m d)) w 0 < 2 ^ 32
+    small zero h = proper.fits 0
+    small (suc zero) h = proper.fits 1
+    small (suc (suc zero)) h = proper.fits 2
+    small (suc (suc (suc zero))) h = proper.fits 3
+    small (suc (suc (suc (suc w)))) h = absurd (omega arith)
+
 -- the lines of a picture are the lines that it was made of
 pub lines_back : (ls : List Line) (more : List ℕ) (d : Line) → ((m : ℕ) → m < length ls → Proper (get_or ls m d)) → lines_at (length ls) (picture ls ++ more) ≡ ls
 lines_back ls more d proper =
     let f = line_at (length ls) (picture ls ++ more) in
     let long = length-map-range_with_len f 0 (length ls) in
-    ext_get_or d (lines_at (length ls) (picture ls ++ more)) ls long (λ m h. let lt : m < length ls = omega arith in get_or-map-range_with_len f 0 (length ls) m m d lt (omega arith) ∙ line m lt)
-  where
-    small : (m w : ℕ) → Proper (get_or ls m d) → w < 4 → get_or (values_of (get_or ls m d)) w 0 < 2 ^ 32
-    small m zero p h = p.fits 0
-    small m (suc zero) p h = p.fits 1
-    small m (suc (suc zero)) p h = p.fits 2
-    small m (suc (suc (suc zero))) p h = p.fits 3
-    small m (suc (suc (suc (suc w)))) p h = absurd (omega arith)
-
-    line : (m : ℕ) → m < length ls → line_at (length ls) (picture ls ++ more) m ≡ get_or ls m d
-    line m h =
-        line_from (length ls) (picture ls ++ more) m (get_or ls m d) (proper m h)
-        (λ w k. number_here (picture ls ++ more) (values_from m + 4 * w) _ (small m w (proper m h) k) (λ i j. value_at ls more m w i d h k j))
-        (state_at ls more m d h)
+    ext_get_or d (lines_at (length ls) (picture ls ++ more)) ls long (λ m h. let lt : m < length ls = omega arith in get_or-map-range_with_len f 0 (length ls) m m d lt (omega arith) ∙ line_back ls more d m lt (proper m lt))
 
 -- bytes that are read as n lines
 module _ (n : ℕ) (bs : List ℕ) (b : Bytes bs) (d : Line) where

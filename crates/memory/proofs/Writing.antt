@@ -162,8 +162,8 @@ module _ (n : ℕ) (zeros more after : List ℕ) (long : length zeros ≡ pictur
 abbrev pub begun : ℕ → List Line → List Line
 begun n ls = take n ls ++ replicate (length ls - n) blank
 
-pub length_begun : (n : ℕ) (ls : List Line) → n ≤ length ls → length (begun n ls) ≡ length ls
-length_begun n ls h = grind (arith, common_steps)
+pub length_begun : (n : ℕ) (ls : List Line) → length (begun n ls) ≡ length ls
+length_begun n ls = grind (arith, common_steps)
 
 pub begun_more : (n : ℕ) (ls : List Line) (d : Line) → n < length ls → set (begun n ls) n (get_or ls n d) ≡ begun (n + 1) ls
 begun_more n ls d h = ext_get_or d _ _ (grind (arith, common_steps)) (λ k lt. grind (arith, common_steps))

@@ -37,6 +37,15 @@ pub opening_line : (f : ℕ → Content) (n : ℕ) → f n ≡ line_by_words (λ
 unfolding word_in
 opening_line f n = grind arith
 
+-- putting back a line's own word changes nothing, and a word that was put is read back
+pub put_same : (f : Content) (w : ℕ) → with_word_in f w (word_in f w) ≡ f
+unfolding word_in with_word_in
+put_same f w = grind (arith, places w)
+
+pub word_put : (f : Content) (w : ℕ) (x : Word) → word_in (with_word_in f w x) w ≡ x
+unfolding word_in with_word_in
+word_put f w x = grind (arith, places w)
+
 -- a changed word changes its line, and no other
 pub line_put : (f : ℕ → Word) (w : ℕ) (x : Word) → line_by_words (updated f w x) (line_of w) ≡ with_word_in (line_by_words f (line_of w)) w x
 unfolding with_word_in

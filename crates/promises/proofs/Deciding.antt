@@ -5,10 +5,18 @@ use Rattle.promises.specs.Calls.{Call, issue, grant, give_back, snoop, settle, w
 use Rattle.promises.specs.Runs.{Opening}
 use Rattle.promises.specs.OneMemory.{Note, TaggedMemory, serve_noted, feed, one_memory}
 use Rattle.promises.specs.Promises.{DecidedAfterIssue, EveryRunDecidesAfterIssue, SpeaksTrue, AllSpeakTrue}
+use Rattle.promises.proofs.Counting.{one}
 use Rattle.promises.proofs.Spoken.{run_speaks}
 
 pub counts_it : (m : TaggedMemory) (k : ℕ) (x : Option Note) → (serve_noted m k x).decided ≡ k ∷ m.decided
 counts_it m k x = grind arith
+
+-- a number is counted for itself, and for no other
+pub one_itself : (k : ℕ) → one k k ≡ 1
+one_itself k = grind (arith, nat_tests)
+
+pub one_other : (j k : ℕ) → (j ≡ k → ⊥) → one j k ≡ 0
+one_other j k ne = grind (arith, nat_tests)
 
 pub when_answered : {P : Type 0} (b : Bool) → b ≡ true → cond {A = Type 0} b P (Unit {0}) → P
 when_answered b e p = rw e at p

@@ -1,11 +1,11 @@
 -- Facts on lists of waiting requests: what waking, sleeping, adding and removing keep.
-use Rattle.std.proofs.Common.{◌≡◌, ℕ, true, not, ◌&&◌, ◌⊎◌, List, [], ◌∷◌, ◌++◌, map, Some, Option, sym, ◌∙◌, subst, inl, inr, ⊎_elim, arith, rules}
+use Rattle.std.proofs.Common.{◌≡◌, ℕ, true, false, not, ◌&&◌, ◌⊎◌, List, [], ◌∷◌, ◌++◌, map, Some, Option, sym, ◌∙◌, subst, inl, inr, ⊎_elim, arith, rules}
 use Rattle.std.proofs.lemmas.Bool.{cases_Bool, eqb-true, cond-true, cond-false, cond_both}
 use Rattle.std.proofs.lemmas.Bool.Decides.{nat_tests}
 use Rattle.std.proofs.lemmas.Option.{none-some, same_Some}
 use Rattle.tagged.specs.declared.answers.Notice.{Notice}
 use Rattle.promises.specs.Board.{Entry}
-use Rattle.promises.specs.Lists.{on_word, any_entry, numbered, without, set_asleep, put_to_sleep, oldest_ready, wake}
+use Rattle.promises.specs.Lists.{on_word, any_entry, numbered, without, set_asleep, put_to_sleep, oldest_ready, wakes, wake}
 use Rattle.promises.specs.Promises.{EveryEntry}
 
 -- the same request, awake or asleep
@@ -22,6 +22,10 @@ Present x (e ∷ es) = SameRequest x e ⊎ Present x es
 
 pub same_request : (x : Entry) → SameRequest x x
 same_request x = grind (arith, nat_tests)
+
+-- waking one changes only whether it sleeps
+pub wake_cases : (n : Option Notice) (w : ℕ) (e : Entry) → ((wakes n w e ≡ true) × (wake n w e ≡ set_asleep false e)) ⊎ ((wakes n w e ≡ false) × (wake n w e ≡ e))
+wake_cases n w e = grind (arith, nat_tests)
 
 wake_same : (n : Option Notice) (w : ℕ) (x e : Entry) → SameRequest x e → SameRequest x (wake n w e)
 wake_same n w x e h = search (rules, cond_both)

@@ -41,7 +41,11 @@ module _ (p : ℕ → Bool) where
   pub any_from : (c : ℕ) → c < 8 → p c ≡ true → any_core p ≡ true
   any_from c h e = grind arith
 
-  -- where no core passes, none does that has to be a core to pass
+  -- where no core passes, each fails
+  pub none_passes : any_core p ≡ false → (c : ℕ) → c < 8 → p c ≡ false
+  none_passes none c h = grind (arith, any_from c h)
+
+  -- and none passes that has to be a core to pass
   pub no_core_passes : any_core p ≡ false → ((c : ℕ) → p c ≡ true → c < 8) → (c : ℕ) → p c ≡ false
   no_core_passes none core c = grind (arith, any_from c, core c)
 

@@ -17,6 +17,7 @@ use Rattle.promises.specs.OneMemory.{TaggedMemory, note, decide, noted_gives_up,
 use Rattle.promises.specs.Promises.{EveryEntry, IsDecidedOnce, EveryRunDecidesInIssueOrder}
 use Rattle.promises.proofs.Contents.{updated_same, updated_each}
 use Rattle.promises.proofs.Frames.{same_state_as}
+use Rattle.promises.proofs.Deciding.{counts_it}
 use Rattle.promises.proofs.Entries.{every_weaker, every_append}
 use Rattle.promises.proofs.Rising.{Rising, Each, Within, within_same, within_then, within_wake, within_sleep, within_without, rising_append, ready_oldest}
 use Rattle.promises.proofs.Ordering.{At, OldestOnWord, Oldest, Earlier, Ordered, order_same, fewer_wait, decide_ordered, oldest_within, oldest_kept, tenure_decided}
@@ -51,7 +52,7 @@ module _ (r : Rules) (m : TaggedMemory) (s : State) (sound : Sound r m s) (was :
   -- the tenure's request, decided or not
   module _ (t : Tenure) (here : WaitsIn s t) (old : OldestOnWord s t) where
     decided_now : IsDecidedOnce (decide m t.entry.number) → Ordered (decide m t.entry.number) s
-    decided_now once = tenure_decided m s t here (tenure_noted r m s t sound here) old once was
+    decided_now once = tenure_decided m (decide m t.entry.number) s t here (tenure_noted r m s t sound here) old (grind arith) (counts_it m t.entry.number (m.noted t.entry.number)) once was
 
     decided_if : (b : Bool) → IsDecidedOnce (cond b (decide m t.entry.number) m) → Ordered (cond b (decide m t.entry.number) m) s
     decided_if b = cond_both b _ _ (λ n. IsDecidedOnce n → Ordered n s) (λ _. decided_now) (λ _ _. was)

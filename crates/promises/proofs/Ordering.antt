@@ -1,5 +1,5 @@
 -- Requests of one core on one word are decided in the order of their issue.
-use Rattle.std.proofs.Common.{◌≡◌, ℕ, ◌<◌, ◌≤◌, List, [], ◌∷◌, Some, None, Option, sym, subst, ⊎_elim, arith}
+use Rattle.std.proofs.Common.{◌≡◌, ℕ, ◌<◌, ◌≤◌, List, [], ◌∷◌, Some, None, Option, sym, ap, ◌∙◌, subst, ⊎_elim, arith}
 use Rattle.std.proofs.lemmas.Bool.Decides.{nat_tests}
 use Rattle.std.proofs.lemmas.Bool.{cases_eq}
 use Rattle.std.proofs.lemmas.List.Sums.{sum_by-cons}
@@ -84,14 +84,26 @@ decide_ordered m s k x noted below newest oldest was =
     later : (c : ℕ) (e : Entry) → Earlier m c e.number e.word × (x.core ≡ c → x.word ≡ e.word → k ≤ e.number) → Earlier (serve_noted m k (Some x)) c e.number e.word
     later c e h j often at = grind (arith, nat_tests)
 
+-- the order is of the notes and the decisions alone
+same_order : (m n : TaggedMemory) (s : State) → n.noted ≡ m.noted → n.decided ≡ m.decided → Ordered m s → Ordered n s
+same_order m n s notes decided was = record {
+  rising = was.rising;
+  below = λ j often. was.below j (subst (λ ks. 1 ≤ times j ks) decided often);
+  oldest = was.oldest;
+  earlier = λ c. every_weaker (λ e. Earlier m c e.number e.word) (λ e. Earlier n c e.number e.word) (λ e h j often at. h j (subst (λ ks. 1 ≤ times j ks) decided often) (subst (At c e.word) (ap (λ f. f j) notes) at)) (s.waiting c) (was.earlier c);
+  order = subst (InIssueOrder n) (sym decided) (order_same m n m.decided (λ j often. ap (λ f. f j) notes) was.order);
+}
+
 -- the tenure's request is decided
-pub tenure_decided : (m : TaggedMemory) (s : State) (t : Tenure) → WaitsIn s t → Noted m s.next t.core t.entry → OldestOnWord s t → IsDecidedOnce (decide m t.entry.number) → Ordered m s → Ordered (decide m t.entry.number) s
-tenure_decided m s t here noted old once was = decide_ordered m s t.entry.number (note_of t.core t.entry) noted.note noted.below newest old was
+pub tenure_decided : (m n : TaggedMemory) (s : State) (t : Tenure) → WaitsIn s t → Noted m s.next t.core t.entry → OldestOnWord s t → n.noted ≡ m.noted → n.decided ≡ t.entry.number ∷ m.decided → IsDecidedOnce n → Ordered m s → Ordered n s
+tenure_decided m n s t here noted old notes decided once was =
+    same_order (decide m t.entry.number) n s (notes ∙ sym (grind arith)) (decided ∙ sym (counts_it m t.entry.number (m.noted t.entry.number)))
+    (decide_ordered m s t.entry.number (note_of t.core t.entry) noted.note noted.below newest old was)
   where
     newest : (j : ℕ) → 1 ≤ times j m.decided → SamePlace (m.noted j) (Some (note_of t.core t.entry)) → j < t.entry.number
     newest j often place =
         let most = every_present (λ e. Earlier m t.core e.number e.word) t.entry (s.waiting t.core) (λ e same h i often at. omega (arith, same.number, h i often (subst (λ w. At t.core w (m.noted i)) same.word at))) (was.earlier t.core) here.present j often (same_at (m.noted j) (note_of t.core t.entry) place) in
         ⊎_elim
-        (λ same. grind (arith, nat_tests, once t.entry.number, counts_it m t.entry.number (m.noted t.entry.number), sum_by-cons (one t.entry.number) t.entry.number m.decided, subst (λ i. 1 ≤ times i m.decided) same often))
+        (λ same. grind (arith, nat_tests, subst (λ ks. times t.entry.number ks ≤ 1) decided (once t.entry.number), sum_by-cons (one t.entry.number) t.entry.number m.decided, subst (λ i. 1 ≤ times i m.decided) same often))
         (λ ne. omega (arith, most, ne))
         (cases_eq j t.entry.number)

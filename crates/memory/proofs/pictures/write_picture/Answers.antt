@@ -22,7 +22,7 @@ loop-n-init c =
 pub loop-n-preserved : goal.loop-n-preserved
 loop-n-preserved c =
     let old = c.loop-n.invariant.0 in
-    let count = length_begun c.loop-n.n c.args.lines.now (omega arith) ∙ sym c.in-Ok.ensures.1 in
+    let count = length_begun c.loop-n.n c.args.lines.now ∙ sym c.in-Ok.ensures.1 in
     let within : c.loop-n.n < c.in-Ok.count = omega (arith, c.in-Ok.ensures.1) in (
       c.put_line.ensures.picture _ _ (count, old) ∙ ap (λ ls. picture ls ++ drop c.in_ok-length.length c.start_picture.new.buffer) (begun_more c.loop-n.n c.args.lines.now no_line c.loop-n-test.true),
       below_more _ _ c.loop-n.invariant.1 (c.put_line.ensures.puts within (line_room _ _ _ c.loop-n.n no_line _ [] count old)).1,
