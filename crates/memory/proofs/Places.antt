@@ -17,11 +17,11 @@ pub ruleset lines_read = (common_steps, length-map-range_with_len)
 
 -- the pieces of a joined list, where each is of one length
 module _ {X : Type 0} (f : X → List ℕ) (s : ℕ) (each : (x : X) → length (f x) ≡ s) where
-  length_joined : (xs : List X) → length (flat_map f xs) ≡ s * length xs
+  pub length_joined : (xs : List X) → length (flat_map f xs) ≡ s * length xs
   length_joined [] = grind arith
   length_joined (x ∷ xs) = grind (arith, common_steps, each, length_joined xs)
 
-  joined_at : (xs : List X) (m j : ℕ) (d : X) → m < length xs → j < s → get_or (flat_map f xs) (s * m + j) 0 ≡ get_or (f (get_or xs m d)) j 0
+  pub joined_at : (xs : List X) (m j : ℕ) (d : X) → m < length xs → j < s → get_or (flat_map f xs) (s * m + j) 0 ≡ get_or (f (get_or xs m d)) j 0
   joined_at [] m j d h k = absurd (omega arith)
   joined_at (x ∷ xs) zero j d h k = grind (arith, common_steps, each x)
   joined_at (x ∷ xs) (suc m) j d h k = grind (arith, common_steps, each x, joined_at xs m j d, mul-suc s m)
@@ -38,7 +38,7 @@ module _ (ls : List Line) (more : List ℕ) where
   length_words : length (flat_map values_of ls) ≡ 4 * length ls
   length_words = length_joined values_of 4 (λ _. refl) ls
 
-  length_values : length (flat_map four_bytes (flat_map values_of ls)) ≡ 16 * length ls
+  pub length_values : length (flat_map four_bytes (flat_map values_of ls)) ≡ 16 * length ls
   length_values = omega (arith, length_words, length_joined four_bytes 4 (λ _. refl) (flat_map values_of ls))
 
   pub length_picture : length (picture ls) ≡ picture_length (length ls)
@@ -181,7 +181,7 @@ module _ (n : ℕ) (bs : List ℕ) (b : Bytes bs) (d : Line) where
       ext_get_or 0 (picture (lines_at n bs)) bs (made ∙ sym long) (λ k h. ap (λ l. get_or l k 0) (sym (append-nil (picture (lines_at n bs)))) ∙ again_at count small k (omega arith))
 
 -- a picture says how many lines it has
-count_back : (ls : List Line) (more : List ℕ) → length ls < 2 ^ 32 → line_count (picture ls ++ more) ≡ length ls
+pub count_back : (ls : List Line) (more : List ℕ) → length ls < 2 ^ 32 → line_count (picture ls ++ more) ≡ length ls
 count_back ls more h = number_here (picture ls ++ more) 0 (length ls) h (λ i lt. let e : 0 + i ≡ i = omega arith in ap (λ k. get_or (picture ls ++ more) k 0) e ∙ header_at ls more i lt)
 
 -- the picture of lines passes the check

@@ -1,6 +1,6 @@
 -- What hand-overs one after another make.
-use Rattle.std.proofs.Common.{◌≡◌, ℕ, ◌+◌, ◌*◌, ◌<◌, List, [], ◌∷◌, ◌++◌, length, take, slice_index_or, refl, ap, arith}
-use Rattle.std.proofs.lemmas.List.{take_more, length-take-le}
+use Rattle.std.proofs.Common.{◌≡◌, ℕ, ◌+◌, ◌*◌, ◌<◌, List, [], ◌∷◌, ◌++◌, map, length, take, slice_index_or, sym, refl, ap, ◌∙◌, arith}
+use Rattle.std.proofs.lemmas.List.{take_more, length-take-le, length-map, get_or-map, ext_get_or}
 use Rattle.mould.specs.declared.exchange.Handed.{Handed}
 use Rattle.mould.specs.declared.plan.Face.{Face}
 use Rattle.mould.specs.Handed.{handed_by, all_handed_from, KeepsItsTolerance}
@@ -13,10 +13,23 @@ all_handed_from-push n (g ∷ fs) f = grind (arith, all_handed_from-push (n + 2)
 pub handed_more : (i : ℕ) (fs : List Face) → i < length fs → all_handed_from 1 (take (i + 1) fs) ≡ all_handed_from 1 (take i fs) ++ handed_by (2 * i + 1) (slice_index_or fs i (record { number = 0; tolerance = 0 })) ∷ []
 handed_more i fs h = grind (arith, take_more fs i (record { number = 0; tolerance = 0 }) h, all_handed_from-push 1 (take i fs), length-take-le)
 
-handed_keeps : (n : ℕ) (fs : List Face) → KeepsItsTolerance fs (all_handed_from n fs)
+pub handed_keeps : (n : ℕ) (fs : List Face) → KeepsItsTolerance fs (all_handed_from n fs)
 handed_keeps n [] = refl
 handed_keeps n (f ∷ fs) = ap (λ l. f ∷ l) (handed_keeps (n + 2) fs)
 
 -- what is handed over from the first number on keeps its tolerances
 pub handed_all : (fs : List Face) (hs : List Handed) → hs ≡ all_handed_from 1 fs → KeepsItsTolerance fs hs
 handed_all fs hs e = rw e (handed_keeps 1 fs)
+
+-- tolerances are kept where there are as many faces, and each is the plan's
+module _ (fs : List Face) (hs : List Handed) where
+  pub kept_length : KeepsItsTolerance fs hs → length hs ≡ length fs
+  kept_length kept = sym (length-map hs (λ h. h.face)) ∙ ap length kept
+
+  pub kept_at : KeepsItsTolerance fs hs → (k : ℕ) (d : Handed) (e : Face) → k < length hs → (slice_index_or hs k d).face ≡ slice_index_or fs k e
+  kept_at kept k d e lt = sym (get_or-map (λ h. h.face) hs k d e lt) ∙ ap (λ l. slice_index_or l k e) kept
+
+  pub kept_from : length hs ≡ length fs → (d : Handed) (e : Face) → ((k : ℕ) → k < length fs → (slice_index_or hs k d).face ≡ slice_index_or fs k e) → KeepsItsTolerance fs hs
+  kept_from long d e same =
+      ext_get_or e (map (λ (h : Handed). h.face) hs) fs (length-map hs (λ h. h.face) ∙ long)
+      (λ k lt. let there : k < length hs = omega (arith, length-map hs (λ (h : Handed). h.face)) in get_or-map (λ h. h.face) hs k d e there ∙ same k (omega arith))
