@@ -21,15 +21,18 @@ handed_keeps n (f ∷ fs) = ap (λ l. f ∷ l) (handed_keeps (n + 2) fs)
 pub handed_all : (fs : List Face) (hs : List Handed) → hs ≡ all_handed_from 1 fs → KeepsItsTolerance fs hs
 handed_all fs hs e = rw e (handed_keeps 1 fs)
 
+abbrev face_of : Handed → Face
+face_of h = h.face
+
 -- tolerances are kept where there are as many faces, and each is the plan's
 module _ (fs : List Face) (hs : List Handed) where
   pub kept_length : KeepsItsTolerance fs hs → length hs ≡ length fs
-  kept_length kept = sym (length-map hs (λ h. h.face)) ∙ ap length kept
+  kept_length kept = sym (length-map hs face_of) ∙ ap length kept
 
   pub kept_at : KeepsItsTolerance fs hs → (k : ℕ) (d : Handed) (e : Face) → k < length hs → (slice_index_or hs k d).face ≡ slice_index_or fs k e
-  kept_at kept k d e lt = sym (get_or-map (λ h. h.face) hs k d e lt) ∙ ap (λ l. slice_index_or l k e) kept
+  kept_at kept k d e below = sym (get_or-map face_of hs k d e below) ∙ ap (λ l. slice_index_or l k e) kept
 
   pub kept_from : length hs ≡ length fs → (d : Handed) (e : Face) → ((k : ℕ) → k < length fs → (slice_index_or hs k d).face ≡ slice_index_or fs k e) → KeepsItsTolerance fs hs
   kept_from long d e same =
-      ext_get_or e (map (λ (h : Handed). h.face) hs) fs (length-map hs (λ h. h.face) ∙ long)
-      (λ k lt. let there : k < length hs = omega (arith, length-map hs (λ (h : Handed). h.face)) in get_or-map (λ h. h.face) hs k d e there ∙ same k (omega arith))
+      ext_get_or e (map face_of hs) fs (length-map hs face_of ∙ long)
+      (λ k within. let below : k < length hs = omega (arith, length-map hs face_of) in get_or-map face_of hs k d e below ∙ same k (omega arith))

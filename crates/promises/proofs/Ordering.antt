@@ -84,9 +84,9 @@ decide_ordered m s k x noted below newest oldest was =
     later : (c : ℕ) (e : Entry) → Earlier m c e.number e.word × (x.core ≡ c → x.word ≡ e.word → k ≤ e.number) → Earlier (serve_noted m k (Some x)) c e.number e.word
     later c e h j often at = grind (arith, nat_tests)
 
--- the order is of the notes and the decisions alone
-same_order : (m n : TaggedMemory) (s : State) → n.noted ≡ m.noted → n.decided ≡ m.decided → Ordered m s → Ordered n s
-same_order m n s notes decided was = record {
+-- whether all is in order depends on the notes and the decisions alone
+ordered_same : (m n : TaggedMemory) (s : State) → n.noted ≡ m.noted → n.decided ≡ m.decided → Ordered m s → Ordered n s
+ordered_same m n s notes decided was = record {
   rising = was.rising;
   below = λ j often. was.below j (subst (λ ks. 1 ≤ times j ks) decided often);
   oldest = was.oldest;
@@ -97,7 +97,7 @@ same_order m n s notes decided was = record {
 -- the tenure's request is decided
 pub tenure_decided : (m n : TaggedMemory) (s : State) (t : Tenure) → WaitsIn s t → Noted m s.next t.core t.entry → OldestOnWord s t → n.noted ≡ m.noted → n.decided ≡ t.entry.number ∷ m.decided → IsDecidedOnce n → Ordered m s → Ordered n s
 tenure_decided m n s t here noted old notes decided once was =
-    same_order (decide m t.entry.number) n s (notes ∙ sym (grind arith)) (decided ∙ sym (counts_it m t.entry.number (m.noted t.entry.number)))
+    ordered_same (decide m t.entry.number) n s (notes ∙ sym (grind arith)) (decided ∙ sym (counts_it m t.entry.number (m.noted t.entry.number)))
     (decide_ordered m s t.entry.number (note_of t.core t.entry) noted.note noted.below newest old was)
   where
     newest : (j : ℕ) → 1 ≤ times j m.decided → SamePlace (m.noted j) (Some (note_of t.core t.entry)) → j < t.entry.number

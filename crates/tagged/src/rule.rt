@@ -43,12 +43,12 @@ impl Operation {
     fn done(self, word: Word, value: u32) -> Served
         ensures { result ≡ done_by self word value }
     {
+        // State and value are chosen apart: a choice between whole words doubles the time of a hand-over.
         let state = match self {
             Operation::Read { altering: true, .. } | Operation::Clear => WordState::Empty,
             Operation::Write { altering: true, .. } => WordState::Full,
             Operation::Read { .. } | Operation::Write { .. } => word.state,
         };
-        // Value and state each by itself: a choice between whole words took twice the time of a hand-over.
         let (answered, left) = match self {
             Operation::Read { .. } => (word.value, word.value),
             Operation::Write { .. } => (0, value),

@@ -1,4 +1,5 @@
-// A memory that somebody else writes, by docs/PICTURE.md: its count of 16 bits is all that bounds its lines.
+// A memory written as docs/PICTURE.md says, outside the crate of memories: only its count's 16 bits bound its lines, which no
+// law over all values of the type could rest on.
 ghost use Rattle.std.specs.Prelude.{◌≡◌, take};
 
 use memory::Memory;
@@ -37,7 +38,7 @@ impl Memory for Window<'_> {
 #[test]
 fn window_is_a_memory(rt: HostRuntime) {
     let mut lines = [Line::blank(); 3];
-    let other = Line {
+    let line = Line {
         values: [1, 2, 3, 4],
         ..Line::blank()
     };
@@ -46,9 +47,9 @@ fn window_is_a_memory(rt: HostRuntime) {
         count: 2,
     };
     assert_eq!(rt; window.line_count(), 2);
-    window.write(1, other);
-    window.write(2, other);
-    assert_eq!(rt; window.read(1), other);
+    window.write(1, line);
+    window.write(2, line);
+    assert_eq!(rt; window.read(1), line);
     assert_eq!(rt; window.read(2), Line::blank());
-    assert_eq!(rt; lines, [Line::blank(), other, Line::blank()]);
+    assert_eq!(rt; lines, [Line::blank(), line, Line::blank()]);
 }
