@@ -84,7 +84,7 @@ decide_ordered m s k x noted below newest oldest was =
     later : (c : ℕ) (e : Entry) → Earlier m c e.number e.word × (x.core ≡ c → x.word ≡ e.word → k ≤ e.number) → Earlier (serve_noted m k (Some x)) c e.number e.word
     later c e h j often at = grind (arith, nat_tests)
 
--- whether all is in order depends on the notes and the decisions alone
+-- of the memory, order looks at the notes and the decisions alone
 ordered_same : (m n : TaggedMemory) (s : State) → n.noted ≡ m.noted → n.decided ≡ m.decided → Ordered m s → Ordered n s
 ordered_same m n s notes decided was = record {
   rising = was.rising;
